@@ -8,7 +8,7 @@ use Rattle.std.proofs.lemmas.Nat.{mod-pow-add, pow_pos, one_shl, and_mask}
 use Rattle.std.proofs.lemmas.Bool.{cases_lt, eqb-true, eqb-false, eq-eqb}
 use Rattle.std.proofs.lemmas.Nat.Bits.{bit_at-lt}
 use Rattle.std.proofs.Common.{inl, inr}
-use Rattle.champ_trie.specs.Bits.{has, rank, Gains}
+use Rattle.champ_trie.specs.Bits.{has, rank, GainsPosition}
 
 -- how many ones a number has below p
 pub ones-rank : (s p : ℕ) → count_ones (s % 2 ^ p) ≡ rank s p
@@ -74,10 +74,10 @@ rank-agree a b (suc p) h =
     let here : bit_at a p ≡ bit_at b p = h p (omega arith) in
     omega arith
 
-pub rank-gain_below : (a b p q : ℕ) → Gains a b p → p < 32 → q ≤ p → rank b q ≡ rank a q
+pub rank-gain_below : (a b p q : ℕ) → GainsPosition a b p → p < 32 → q ≤ p → rank b q ≡ rank a q
 rank-gain_below a b p q g small le = rank-agree b a q (λ k lt. g.others k (omega arith) (λ e. omega arith))
 
-pub rank-gain_above : (a b p q : ℕ) → Gains a b p → p < 32 → p < q → q ≤ 32 → rank b q ≡ rank a q + 1
+pub rank-gain_above : (a b p q : ℕ) → GainsPosition a b p → p < 32 → p < q → q ≤ 32 → rank b q ≡ rank a q + 1
 unfolding rank
 rank-gain_above a b p zero g small lt le = absurd (omega arith)
 rank-gain_above a b p (suc q) g small lt le =

@@ -27,8 +27,7 @@ use Rattle.champ_trie.specs.declared.place.Place.TheVariants.{Entry as At, Node,
 use Rattle.champ_trie.proofs.BitLemmas.{rank-lt, rank-onto, rank-none, has-none, bit-no}
 use Rattle.champ_trie.proofs.PlaceLemmas.{place-entry, place-node, place-empty}
 use Rattle.champ_trie.proofs.ReachLemmas.{alike-all, agreeing-none}
-use Rattle.node_heap.specs.Calls.{Builds, Extends, SameRows}
-use Rattle.node_heap.proofs.BuildLemmas.{Builds-then, Builds-more}
+use Rattle.node_heap.specs.Calls.{Extends, SameRows}
 use Rattle.champ_trie.proofs.PartLemmas.{part-others, part-agreeing, part-link, others-elsewhere, place-kept, stands-at, below-part, row-trie, trie-kept}
 
 -- only a chain is said to be one
@@ -222,11 +221,6 @@ module _ {T : Type 0} (cmp : T → T → Ordering) (code : T → ℕ) (equal_cod
         more-left cmp code (form_at h) (λ k Q. IsTrie cmp code (form_at h) left (d + 1) k Q) d e n ls (others cmp key P) sets places other (omega (arith, two, one-gone cmp code key P distinct)),
         row-trie cmp code (form_at h) left d l e n ls (others cmp key P) row places,
       )
-
-module _ {T : Type 0} where
-  -- the row's other links are held, and then it is closed
-  pub left-builds : {old mid held new : Heap T} {here items place : List ℕ} {m n : ℕ} → Builds old mid [] here 0 m → Builds mid held here items 0 0 → Builds held new items place 0 1 → m + 1 ≤ n → Builds old new [] place 0 n
-  left-builds {n = n} first second third le = Builds-more 0 n (Builds-then first (Builds-then second third)) (omega arith) (omega (arith, le))
 
 module _ {K : Type 0} (cmp : K → K → Ordering) (code : K → ℕ) where
   -- the node at the digit's place of a row above the deepest

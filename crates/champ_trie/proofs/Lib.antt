@@ -16,4 +16,5 @@ pub mod BesideLemmas
 pub mod RowLemmas
 pub mod FillLemmas
 pub mod BelowLemmas
+mod TurnLemmas
 pub mod CallerLemmas

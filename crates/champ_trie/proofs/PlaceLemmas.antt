@@ -1,12 +1,12 @@
 -- What stands at each position of a row after something is taken out or put in.
-use Rattle.std.proofs.Common.{◌≡◌, ◌≢◌, ℕ, suc, zero, ◌+◌, ◌<◌, ◌≤◌, ◌^◌, List, length, get_or, refl, ap, sym, subst, ◌∙◌, arith, cond, true, false, inl, inr}
+use Rattle.std.proofs.Common.{◌≡◌, ℕ, suc, zero, ◌+◌, ◌<◌, ◌≤◌, ◌^◌, List, length, get_or, refl, ap, sym, subst, ◌∙◌, arith, cond, true, false, inl, inr}
 use Rattle.std.specs.List.{insert, remove}
 use Rattle.std.proofs.lemmas.Bool.{cases_Bool, cases_lt, cases_order}
 use Rattle.std.proofs.lemmas.List.Edits.{length-insert, get_or-insert_below, get_or-insert_at, get_or-insert_above, length-remove, get_or-remove_below, get_or-remove_above}
 use Rattle.std.specs.Int.{bit_at}
-use Rattle.champ_trie.specs.Bits.{has, rank, Gains}
+use Rattle.champ_trie.specs.Bits.{has, rank, GainsPosition}
 use Rattle.champ_trie.specs.Trie.{AreSets, place_of}
-use Rattle.champ_trie.specs.declared.place.Place.{Place}
+pub use Rattle.champ_trie.specs.Edit.{ChangesAt as Changes}
 use Rattle.champ_trie.specs.declared.place.Place.TheVariants.{Entry as At, Node, Empty}
 use Rattle.champ_trie.proofs.BitLemmas.{rank-mono, rank-lt, rank-gain_below, rank-gain_above, has-bit, bit-has, bit-no, no-bit, has-same}
 use Rattle.std.proofs.lemmas.Nat.Bits.{bit_at-lt}
@@ -47,12 +47,6 @@ same-place e n ls e' n' ls' q same_e same_n entries nodes = elim (cases_Bool (ha
   ]
 ]
 
--- a row changed at one position
-pub record Changes (e n : ℕ) (ls : List ℕ) (e' n' : ℕ) (ls' : List ℕ) (p : ℕ) (place : Place) : Type 0 where
-  pub sets : AreSets e' n' ls'
-  pub here : place_of e' n' ls' p ≡ place
-  pub others : (q : ℕ) → q < 32 → q ≢ p → place_of e' n' ls' q ≡ place_of e n ls q
-
 module _ (e n : ℕ) (ls : List ℕ) (p : ℕ) (small : p < 32) (sets : AreSets e n ls) where
   pub entry-in : has e p ≡ true → rank e p < length ls
   entry-in here = omega (arith, sets.count, rank-lt e p 32 small here)
@@ -67,8 +61,12 @@ module _ (e n : ℕ) (ls : List ℕ) (p : ℕ) (small : p < 32) (sets : AreSets 
     | inr none ↦ none
   ]
 
+  -- nothing stands there
+  pub clear-none : has e p ≡ false → has n p ≡ false → Changes e n ls e n ls p Empty
+  clear-none absent none = record { sets = sets; here = place-empty e n ls p absent none; others = λ q lt other. refl }
+
   -- an entry is taken out
-  pub clear-entry : (e' : ℕ) → e' < 2 ^ 32 → has e p ≡ true → Gains e' e p → Changes e n ls e' n (remove ls (rank e p)) p Empty
+  pub clear-entry : (e' : ℕ) → e' < 2 ^ 32 → has e p ≡ true → GainsPosition e' e p → Changes e n ls e' n (remove ls (rank e p)) p Empty
   clear-entry e' low had lost =
       let i : ℕ = rank e p in
       let within = entry-in had in
@@ -104,7 +102,7 @@ module _ (e n : ℕ) (ls : List ℕ) (p : ℕ) (small : p < 32) (sets : AreSets 
       }
 
   -- a node is taken out
-  pub clear-node : (n' : ℕ) → n' < 2 ^ 32 → has e p ≡ false → has n p ≡ true → Gains n' n p → Changes e n ls e n' (remove ls (rank e 32 + rank n p)) p Empty
+  pub clear-node : (n' : ℕ) → n' < 2 ^ 32 → has e p ≡ false → has n p ≡ true → GainsPosition n' n p → Changes e n ls e n' (remove ls (rank e 32 + rank n p)) p Empty
   clear-node n' low absent had lost =
       let i : ℕ = rank e 32 + rank n p in
       let within = node-in had in
@@ -139,7 +137,7 @@ module _ (e n : ℕ) (ls : List ℕ) (p : ℕ) (small : p < 32) (sets : AreSets 
       }
 
   -- an entry is put in
-  pub put-entry : (e' x : ℕ) → e' < 2 ^ 32 → has e p ≡ false → has n p ≡ false → Gains e e' p → Changes e n ls e' n (insert ls (rank e p) x) p (At x)
+  pub put-entry : (e' x : ℕ) → e' < 2 ^ 32 → has e p ≡ false → has n p ≡ false → GainsPosition e e' p → Changes e n ls e' n (insert ls (rank e p) x) p (At x)
   put-entry e' x low absent none gains =
       let i : ℕ = rank e p in
       let up_to : rank e p ≤ rank e 32 = rank-mono e p 32 (omega arith) in
@@ -175,7 +173,7 @@ module _ (e n : ℕ) (ls : List ℕ) (p : ℕ) (small : p < 32) (sets : AreSets 
       }
 
   -- a node is put in
-  pub put-node : (n' x : ℕ) → n' < 2 ^ 32 → has e p ≡ false → has n p ≡ false → Gains n n' p → Changes e n ls e n' (insert ls (rank e 32 + rank n p) x) p (Node x)
+  pub put-node : (n' x : ℕ) → n' < 2 ^ 32 → has e p ≡ false → has n p ≡ false → GainsPosition n n' p → Changes e n ls e n' (insert ls (rank e 32 + rank n p) x) p (Node x)
   put-node n' x low absent none gains =
       let i : ℕ = rank e 32 + rank n p in
       let up_to : rank n p ≤ rank n 32 = rank-mono n p 32 (omega arith) in

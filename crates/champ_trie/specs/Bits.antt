@@ -12,7 +12,7 @@ rank set zero = 0
 rank set (suc p) = rank set p + bit_at set p
 
 -- the second set has this position besides
-pub record Gains (a b p : ℕ) : Type 0 where
+pub record GainsPosition (a b p : ℕ) : Type 0 where
   pub was : bit_at a p ≡ 0
   pub is : bit_at b p ≡ 1
   pub others : (q : ℕ) → q < 32 → q ≢ p → bit_at b q ≡ bit_at a q

@@ -6,7 +6,7 @@ use Rattle.elem_core.specs.declared.codes.TheConstants.{LEVELS}
 use Rattle.node_heap.specs.Forms.{Forms}
 use Rattle.node_heap.specs.Heap.{Heap, form_at}
 use Rattle.champ_chain.specs.Entry.{Entry, AreDistinct}
-use Rattle.champ_trie.specs.Trie.{IsRow, IsTrie, place_of}
+use Rattle.champ_trie.specs.Trie.{AreSets, IsRow, IsTrie, place_of}
 use Rattle.champ_trie.specs.Reach.{Agrees}
 use Rattle.champ_trie.specs.declared.place.Place.{Place}
 use Rattle.champ_trie.specs.declared.place.Place.TheVariants.{Entry as At, Node}
@@ -16,6 +16,12 @@ abbrev pub Closes : {T : Type 0} → Heap T → ℕ → ℕ → List ℕ → ℕ
 Closes h entries nodes links depth place =
     ((nodes ≡ 0) × (length links ≡ 1) × (place ≡ At (slice_index links 0)))
     ⊎ (((nodes ≡ 0) × (length links ≡ 1) → ⊥) × ((l : ℕ) × (place ≡ Node l) × IsRow (form_at h) l depth entries nodes links))
+
+-- the second row has this place at a position, and else what the first one has
+pub record ChangesAt (entries nodes : ℕ) (links : List ℕ) (new_entries new_nodes : ℕ) (new_links : List ℕ) (p : ℕ) (place : Place) : Type 0 where
+  pub sets : AreSets new_entries new_nodes new_links
+  pub here : place_of new_entries new_nodes new_links p ≡ place
+  pub others : (q : ℕ) → q < 32 → q ≢ p → place_of new_entries new_nodes new_links q ≡ place_of entries nodes links q
 
 -- the rows of a chain of two entries with these codes, which stand in a chain only where the codes are the same
 abbrev pub chain_nodes : ℕ → ℕ → ℕ
@@ -42,7 +48,29 @@ module _ {K : Type 0} where
     pub others : (q : ℕ) → q < 32 → q ≢ p → place_of new_entries new_nodes new_links q ≡ place_of entries nodes links q
     pub next : (j k : ℕ) → place_of entries nodes links p ≡ Node j → place_of new_entries new_nodes new_links p ≡ Node k → IsNext j k
 
+  -- these sets and links have this place at a position, and else what the row has
+  pub record AreEdited (F : Forms K) (l p : ℕ) (place : Place) (entries nodes : ℕ) (links : List ℕ) : Type 0 where
+    pub sets : AreSets entries nodes links
+    pub here : place_of entries nodes links p ≡ place
+    pub others : (d e n : ℕ) (ls : List ℕ) → IsRow F l d e n ls → (q : ℕ) → q < 32 → q ≢ p → place_of entries nodes links q ≡ place_of e n ls q
+
+  -- the second row, at a depth, has this place at a position, and else what the first one has
+  pub record IsEdited (F G : Forms K) (l depth p : ℕ) (place : Place) (m : ℕ) : Type 0 where
+    pub entries : ℕ
+    pub nodes : ℕ
+    pub links : List ℕ
+    pub edits : AreEdited F l p place entries nodes links
+    pub row : IsRow G m depth entries nodes links
+
   -- the second trie differs from the first on the way of a code alone: beside it each row has the same links
   unfoldable pub SharesBeside : Forms K → Forms K → ℕ → ℕ → ℕ → ℕ → ℕ → Type 0
   SharesBeside F G c zero depth l m = Unit {0}
   SharesBeside F G c (suc left) depth l m = DifferAt F G depth (digit_at c depth) l m (λ j k. SharesBeside F G c left (suc depth) j k)
+
+-- the place has what stands for a row at a depth that has this place at a position, and else what the row at a link has
+pub record IsClosed {T : Type 0} (old new : Heap T) (l depth p : ℕ) (place closed : Place) : Type 0 where
+  pub entries : ℕ
+  pub nodes : ℕ
+  pub links : List ℕ
+  pub edits : AreEdited (form_at old) l p place entries nodes links
+  pub closes : Closes new entries nodes links depth closed

@@ -14,14 +14,15 @@ ghost use Rattle.champ_trie.specs.Reach.{alike_in};
 ghost use Rattle.champ_trie.specs.Edit.{IsBelow, chain_nodes, SharesBeside};
 
 use crate::place::Place;
-use crate::row::{DraftRow, edited, place_at};
+use crate::row::{DraftRow, place_at};
+use crate::turn::{closed, edited};
 use champ_chain::{added, joined, key_of, removed};
 use elem_core::{CODE_BITS, Code, DEEPEST, Element, LEVELS, Probe, digit, masked};
 use node_heap::{Heap, Kind, Link};
 use std::cmp::Ordering;
 
 // The trie at a link with the entry added, or in the place of the one with its key. The spares suffice, and the entry's
-// hold is spent. All rows are written in the one that is lent, whatever it was.
+// hold is spent.
 pub(crate) fn with_at<T: Element>(
     heap: &mut Heap<T>,
     link: Link,
@@ -29,7 +30,6 @@ pub(crate) fn with_at<T: Element>(
     entry: Link,
     code: Code,
     bits: u32,
-    row: &mut DraftRow,
 ) -> Link
     requires bits { bits ≤ CODE_BITS }
     requires few { hold_count heap.old ≤ half_holds }
@@ -52,10 +52,9 @@ pub(crate) fn with_at<T: Element>(
     let place = match place_at(heap, link, position) {
         Place::Empty => Place::Entry(entry),
         Place::Entry(old) => beside(heap, old, depth, entry, code, bits),
-        Place::Node(child) => Place::Node(with_at(heap, child, depth + 1, entry, code, bits, row)),
+        Place::Node(child) => Place::Node(with_at(heap, child, depth + 1, entry, code, bits)),
     };
-    edited(heap, link, position, place, row);
-    row.make(heap, depth)
+    edited(heap, link, depth, position, place)
 }
 
 // What stands for the entry and an older one at a position: the new one where the keys are the same, else a node of both.
@@ -143,7 +142,6 @@ fn lone_row(position: u32, place: Place) -> DraftRow
 }
 
 // What stands at the key's position in the row at a link once the key is gone. The key is there, and the spares suffice.
-// All rows are written in the one that is lent, whatever it was.
 pub(crate) fn place_without<T: Element, P: Probe<T>>(
     heap: &mut Heap<T>,
     link: Link,
@@ -151,7 +149,6 @@ pub(crate) fn place_without<T: Element, P: Probe<T>>(
     key: &P,
     code: Code,
     bits: u32,
-    row: &mut DraftRow,
 ) -> Place
     requires bits { bits ≤ CODE_BITS }
     requires depth { depth ≤ DEEPEST }
@@ -177,9 +174,9 @@ pub(crate) fn place_without<T: Element, P: Probe<T>>(
             if depth == DEEPEST {
                 return chain_place_without(heap, child, key);
             }
-            let left = place_without(heap, child, depth + 1, key, code, bits, row);
-            edited(heap, child, digit(code, depth + 1), left, row);
-            row.close(heap, depth + 1)
+            let next = depth + 1;
+            let left = place_without(heap, child, next, key, code, bits);
+            closed(heap, child, next, digit(code, next), left)
         }
     }
 }

@@ -22,6 +22,7 @@ mod laws;
 mod place;
 mod reach;
 mod row;
+mod turn;
 mod walk;
 
 pub use champ_chain::Found;
@@ -33,9 +34,10 @@ pub use laws::{depends_on_entries, rows_are_told_by_places, tries_stay};
 use node_heap::{Heap, Link};
 pub use place::{Place, cleared, contains, node_index, rank_of, with_position};
 use reach::reached;
+use row::DraftRow;
 pub use row::{row_of_places, sets_of};
-use row::{DraftRow, edited};
 use std::cmp::Ordering;
+use turn::edited;
 pub use walk::Entries;
 
 /// The most nodes that adding an entry makes, besides one for each key with the same masked code: a row of each depth, and
@@ -223,7 +225,7 @@ pub fn added<T: Element>(heap: &mut Heap<T>, root: Link, entry: Link, bits: u32)
     ensures tries { KeepsTries heap.old heap.new }
 {
     let code = masked(Element::code(key_of(heap, entry)), bits);
-    with_at(heap, root, 0, entry, code, bits, &mut DraftRow::empty())
+    with_at(heap, root, 0, entry, code, bits)
 }
 
 /// The trie without the entry with this key: None exactly where the key is absent, and then nothing has changed. The
@@ -280,8 +282,6 @@ pub fn removed<T: Element, P: Probe<T>>(heap: &mut Heap<T>, root: Link, key: &P,
     ensures tries { KeepsTries heap.old heap.new }
 {
     let code = masked(key.code(), bits);
-    let mut row = DraftRow::empty();
-    let left = place_without(heap, root, 0, key, code, bits, &mut row);
-    edited(heap, root, digit(code, 0), left, &mut row);
-    row.make(heap, 0)
+    let left = place_without(heap, root, 0, key, code, bits);
+    edited(heap, root, 0, digit(code, 0), left)
 }

@@ -1,6 +1,6 @@
 //! Positions of a trie row.
 ghost use Rattle.std.specs.Prelude.{◌≡◌, ◌+◌, ◌<◌, true, false};
-ghost use Rattle.champ_trie.specs.Bits.{has, rank, Gains};
+ghost use Rattle.champ_trie.specs.Bits.{has, rank, GainsPosition};
 ghost use Rattle.champ_trie.specs.Trie.{AreSets, place_of};
 
 use node_heap::Link;
@@ -38,7 +38,7 @@ pub fn rank_of(set: u32, position: u32) -> u32
 pub fn with_position(set: u32, position: u32) -> u32
     requires position { position < 32 }
     requires free { has set position ≡ false }
-    ensures { Gains set result position }
+    ensures { GainsPosition set result position }
 {
     set | (1 << position)
 }
@@ -47,7 +47,7 @@ pub fn with_position(set: u32, position: u32) -> u32
 pub fn cleared(set: u32, position: u32) -> u32
     requires position { position < 32 }
     requires there { has set position ≡ true }
-    ensures { Gains result set position }
+    ensures { GainsPosition result set position }
 {
     set & !(1 << position)
 }

@@ -17,7 +17,7 @@ pub(crate) fn reached<T: Element>(heap: &Heap<T>, root: Link, code: Code, bits: 
     ensures place { (E : List (Entry T)) → IsTrieOf T.cmp T.code_of bits heap.now root E →
         LeadsTo (code_by T.code_of bits) T.cmp (form_at heap.now) E code result }
 {
-    heap.is_graph();
+    heap.rows_form_a_graph();
     let mut link = root;
     for depth in 0..LEVELS {
         let row = heap.trie(link);

@@ -1,16 +1,15 @@
 //! Trie rows apart from the heap, and how they are made.
-ghost use Rattle.std.specs.Prelude.{◌≡◌, ◌≢◌, ◌⊎◌, ℕ, ◌+◌, ◌<◌, ◌≤◌, List, [], ◌∷◌, length, Some, None, slice_index, slice_index_or};
+ghost use Rattle.std.specs.Prelude.{◌≡◌, ◌≢◌, ℕ, ◌+◌, ◌<◌, ◌≤◌, List, [], ◌∷◌, length, Some, None, slice_index_or};
 ghost use Rattle.std.specs.List.{flat_map};
 ghost use Rattle.node_heap.specs.Links.{count};
 ghost use Rattle.node_heap.specs.Forms.{node, trie};
-ghost use Rattle.node_heap.specs.Heap.{row_at, form_at, holds_at, hold_count, IsGraph, half_holds, most_holds};
-ghost use Rattle.node_heap.specs.Calls.{AddsOwner, SameRows, Makes, Builds};
+ghost use Rattle.node_heap.specs.Heap.{row_at, form_at, holds_at, hold_count, most_holds};
+ghost use Rattle.node_heap.specs.Calls.{AddsOwner, Makes, Builds};
 ghost use Rattle.node_heap.specs.declared.row.Head.TheVariants.{Trie};
 ghost use Rattle.champ_trie.specs.Trie.{AreSets, IsRow, IsRowOfPlaces, place_of, links_at_place};
-ghost use Rattle.champ_trie.specs.Edit.{Closes};
-ghost use Rattle.champ_trie.specs.declared.place.Place.TheVariants.{Empty, Entry as At, Node};
+ghost use Rattle.champ_trie.specs.declared.place.Place.TheVariants.{Empty, Node};
 
-use crate::place::{Place, cleared, contains, node_index, place_among, rank_of, with_position};
+use crate::place::{Place, node_index, place_among, rank_of, with_position};
 use node_heap::{Head, Heap, Link, RowLinks};
 
 // The sets and links of a trie row.
@@ -32,38 +31,6 @@ impl DraftRow {
             entries: 0,
             nodes: 0,
             links: RowLinks::new(),
-        }
-    }
-
-    // Makes it the row at a link, whatever it was.
-    pub(crate) fn read<T>(&mut self, heap: &Heap<T>, link: Link)
-        requires { (depth entries nodes : ℕ) × (links : List ℕ) × IsRow (form_at heap.now) link depth entries nodes links }
-        ensures { (depth entries nodes : ℕ) (links : List ℕ) → IsRow (form_at heap.now) link depth entries nodes links →
-            (self.new.entries ≡ entries) × (self.new.nodes ≡ nodes) × (self.new.links ≡ links) }
-    {
-        let row = heap.trie(link);
-        self.entries = row.entries;
-        self.nodes = row.nodes;
-        self.links.rewrite(row.links);
-    }
-
-    // Takes out what stands at the position.
-    pub(crate) fn clear(&mut self, position: u32)
-        requires sets { AreSets self.old.entries self.old.nodes self.old.links }
-        requires position { position < 32 }
-        ensures sets { AreSets self.new.entries self.new.nodes self.new.links }
-        ensures here { place_of self.new.entries self.new.nodes self.new.links position ≡ Empty }
-        ensures others { (p : ℕ) → p < 32 → p ≢ position →
-            place_of self.new.entries self.new.nodes self.new.links p ≡ place_of self.old.entries self.old.nodes self.old.links p }
-        ensures links { (k : ℕ) → count k self.new.links ≤ count k self.old.links }
-    {
-        if contains(self.entries, position) {
-            self.links.remove(rank_of(self.entries, position) as usize);
-            self.entries = cleared(self.entries, position);
-        } else if contains(self.nodes, position) {
-            let index = node_index(self.entries, self.nodes, position);
-            self.links.remove(index);
-            self.nodes = cleared(self.nodes, position);
         }
     }
 
@@ -113,25 +80,6 @@ impl DraftRow {
             nodes: self.nodes,
         };
         heap.node(head, self.links.as_slice())
-    }
-
-    // What stands for the row in the one above: the only entry that it has, or else a row of the heap like it. It spends
-    // a hold of each link.
-    pub(crate) fn close<T>(&self, heap: &mut Heap<T>, depth: u8) -> Place
-        requires sets { AreSets self.now.entries self.now.nodes self.now.links }
-        requires spare { 0 < heap.old.spare_nodes }
-        requires held { (k : ℕ) → count k self.now.links ≤ holds_at heap.old k }
-        requires few { hold_count heap.old < most_holds }
-        requires graph { IsGraph heap.old }
-        ensures place { Closes heap.new self.now.entries self.now.nodes self.now.links depth result }
-        ensures builds { Builds heap.old heap.new self.now.links (links_at_place result) 0 1 }
-    {
-        let links = self.links.as_slice();
-        if self.nodes == 0 && links.len() == 1 {
-            Place::Entry(links[0])
-        } else {
-            Place::Node(self.make(heap, depth))
-        }
     }
 }
 
@@ -186,29 +134,4 @@ pub(crate) fn place_at<T>(heap: &Heap<T>, link: Link, position: u32) -> Place
 {
     let row = heap.trie(link);
     place_among(row.entries, row.nodes, row.links, position)
-}
-
-// Makes the row the one at a link with another place at the position, whatever it was. A hold of each other link is gained.
-pub(crate) fn edited<T>(
-    heap: &mut Heap<T>,
-    link: Link,
-    position: u32,
-    place: Place,
-    row: &mut DraftRow,
-)
-    requires row { (depth entries nodes : ℕ) × (links : List ℕ) × IsRow (form_at heap.old) link depth entries nodes links }
-    requires graph { IsGraph heap.old }
-    requires position { position < 32 }
-    requires few { hold_count heap.old < half_holds + 2 }
-    ensures rows { SameRows heap.old heap.new }
-    ensures builds { Builds heap.old heap.new (links_at_place place) row.new.links 0 0 }
-    ensures sets { AreSets row.new.entries row.new.nodes row.new.links }
-    ensures here { place_of row.new.entries row.new.nodes row.new.links position ≡ place }
-    ensures others { (depth entries nodes : ℕ) (links : List ℕ) → IsRow (form_at heap.old) link depth entries nodes links →
-        (p : ℕ) → p < 32 → p ≢ position → place_of row.new.entries row.new.nodes row.new.links p ≡ place_of entries nodes links p }
-{
-    row.read(heap, link);
-    row.clear(position);
-    heap.hold_all(row.links.as_slice());
-    row.put(position, place);
 }

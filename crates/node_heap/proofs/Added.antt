@@ -36,13 +36,13 @@ module _ {T : Type 0} where
     pub counted-joined : IsCounted new
     counted-joined = IsCounted-add old new key _ counted j.puts.was j.puts.now j.puts.others refl j.puts.low j.short j.held
 
-    adds-joined : (a b m a' b' m' : ℕ) → Adds (seen old a b m) (seen new a' b' m') key row
+    pub adds-joined : (a b m a' b' m' : ℕ) → Adds (seen old a b m) (seen new a' b' m') key row
     adds-joined a b m a' b' m' = Adds-slots old new key _ (seen old a b m) (seen new a' b' m') refl refl refl refl counted j.puts.was j.puts.now j.puts.others refl j.held
 
-    count-joined : sum (holds_in new) + length (links_of (Some row)) ≡ sum (holds_in old) + 1
+    pub count-joined : sum (holds_in new) + length (links_of (Some row)) ≡ sum (holds_in old) + 1
     count-joined = sum-moved (links_of (Some row)) (holds_in old) (holds_in new) key (omega (arith, holds_at-slots old key, j.held key)) (adds-joined 0 0 0 0 0 0).holds
 
-    owners-joined : (a b m a' b' m' : ℕ) → AddsOwner (seen old a b m) (seen new a' b' m') key
+    pub owners-joined : (a b m a' b' m' : ℕ) → AddsOwner (seen old a b m) (seen new a' b' m') key
     owners-joined a b m a' b' m' k =
         let at_old = owners_at-slots old counted k in
         let at_new = owners_at-slots new counted-joined k in

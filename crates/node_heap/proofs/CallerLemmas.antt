@@ -20,6 +20,8 @@ pub use Rattle.node_heap.proofs.Frames.{Makes-trans, Unchanged-refl, Answered-Un
 pub use Rattle.node_heap.proofs.BuildLemmas.{Makes-refl, Builds-refl, Builds-cell, Builds-node, Builds-hold, Builds-then, Builds-both, Builds-beside, Builds-more, Builds-as, Builds-held}
 pub use Rattle.node_heap.proofs.BuildLemmas.{Builds-made, Builds-MakesJust, Builds-spare_cells, Builds-spare_nodes, Builds-Answered, Answered-Builds}
 pub use Rattle.node_heap.proofs.RoomLemmas.{KeepsToNeed-refl, KeepsToNeed-more, KeepsToNeed-then, KeepsToNeed-reserved, KeepsToNeed-Builds, KeepsToNeed-Releases, Builds-KeepsToNeed}
+-- a row that is made of another, which is a node where it has a link
+pub use Rattle.node_heap.proofs.Changed.{node-long}
 -- steps that free rows
 pub use Rattle.node_heap.proofs.Frames.{KeepsBelow-trans, KeepsBelow-Releases, KeepsHeld-trans, KeepsHeld-then, KeepsHeld-Extends, KeepsHeld-Releases, IsTree-KeepsHeld}
 pub use Rattle.node_heap.proofs.Frames.{Balances-trans, Balances-Makes, Balances-Releases}

@@ -10,7 +10,7 @@ use Rattle.node_heap.specs.Layout.{row_of_slot, owners_in, rows_of_slots, holds_
 use Rattle.node_heap.specs.Heap.{places_in, one_at}
 use Rattle.node_heap.specs.Layout.{Slot}
 use Rattle.node_heap.proofs.Counts.{count-cons, test_same, test_other, sum_by-apart}
-use Rattle.node_heap.proofs.Slots.{row_at-slots, holds_at-slots, places_at-apart}
+use Rattle.node_heap.proofs.Slots.{row_at-slots, holds_at-slots}
 
 -- what is left from an index on begins with the link there
 pub at_link : (links : List ℕ) (i x place : ℕ) → i < length links → place ≡ x → x ≡ get_or links i x → drop i links ≡ place ∷ drop (i + 1) links
@@ -109,53 +109,6 @@ module _ {T : Type 0} where
             (wait.0, omega (arith, wait.1, count-cons l k pend, none, placed_in l), live);
       }
 
-  -- the first row that waits is gone, and its links are to be dropped
-  pub IsDying-remove : (H : ℕ → ℕ) (slots new : List (Option (Slot T))) (first : ℕ) → first ≢ 2 ^ 64 - 1 → slot_at new first ≡ None → ApartAt slots new first → IsDying H slots first [] → IsDying H new (owners_in (slot_at slots first)) (links_of (graph_of slots first))
-  IsDying-remove H slots new first not_end gone apart d = step d.dead d.threaded d.counted d.owned d.waiting
-    where
-      links : List ℕ
-      links = links_of (graph_of slots first)
-
-      step : (dead : List ℕ) → IsThreaded slots first dead
-          → ((l : ℕ) → count l dead ≡ 0 → owners_in (slot_at slots l) ≡ H l + (places_at slots l + 0))
-          → ((l : ℕ) → count l dead ≡ 0 → IsSome (slot_at slots l) → 0 < owners_in (slot_at slots l))
-          → ((l : ℕ) → 0 < count l dead → (count l dead ≡ 1) × (H l + (places_at slots l + 0) ≡ 0) × IsSome (slot_at slots l))
-          → IsDying H new (owners_in (slot_at slots first)) (links_of (graph_of slots first))
-      step [] threaded counted owned waiting = absurd (not_end threaded)
-      step (x ∷ xs) threaded counted owned waiting =
-          let is : first ≡ x = threaded.0 in
-          let head : count first (x ∷ xs) ≡ 1 + count first xs = omega (arith, count-cons first x xs, test_same x first (sym is)) in
-          let wait = waiting first (omega (arith, head)) in
-          let off : count first xs ≡ 0 = omega (arith, head, wait.0) in
-          let nothing = ap owners_in gone in
-          let moved : (l : ℕ) → places_at new l + count l (links_of (graph_of slots first)) ≡ places_at slots l =
-          λ l. let sums = places_at-apart slots new first apart l in let blank = ap (λ o. count l (links_of (row_of_slot o))) gone in omega (arith, sums, blank) in
-          let same_count : (l : ℕ) → l ≢ first → count l (x ∷ xs) ≡ count l xs = λ l other. omega (arith, count-cons l x xs, test_other x l (λ e. other (sym (is ∙ e)))) in
-          record {
-            dead = xs;
-            threaded = IsThreaded-apart slots new first apart _ xs off (subst (λ j. IsThreaded slots (owners_in (slot_at slots j)) xs) (sym is) threaded.2);
-            counted = λ l none. elim (cases_eq l first) as (λ _. owners_in (slot_at new l) ≡ H l + (places_at new l + count l (links_of (graph_of slots first)))) [
-              | inl same ↦
-                  let P : ℕ → Type 0 = λ j. owners_in (slot_at new j) ≡ H j + (places_at new j + count j (links_of (graph_of slots first))) in
-                  subst P (sym same) (omega (arith, nothing, moved first, wait.1))
-              | inr other ↦ omega (arith, ap owners_in (apart l other), counted l (same_count l other ∙ none), moved l)
-            ];
-            owned = λ l none live. elim (cases_eq l first) as (λ _. 0 < owners_in (slot_at new l)) [
-              | inl same ↦ let at_first : IsSome (slot_at new first) = subst (λ j. IsSome (slot_at new j)) same live in let dead_now : IsSome {T = Slot T} None = subst IsSome gone at_first in cc
-              | inr other ↦ let was : IsSome (slot_at slots l) = rw (← apart l other) live in omega (arith, ap owners_in (apart l other), owned l (same_count l other ∙ none) was)
-            ];
-            waiting = λ l held.
-                let other : l ≢ first = λ same. absurd (omega (arith, ap (λ j. count j xs) same, off, held)) in
-                let still = waiting l (omega (arith, same_count l other, held)) in
-                let live : IsSome (slot_at new l) = rw (apart l other) still.2 in
-                (omega (arith, same_count l other, still.0), omega (arith, still.1, moved l), live);
-          }
-
-  -- the same, by the owners and the links that the row gave
-  pub IsDying-taken : (H : ℕ → ℕ) (slots new : List (Option (Slot T))) (first next : ℕ) (links : List ℕ) → first ≢ 2 ^ 64 - 1 → slot_at new first ≡ None → ApartAt slots new first → next ≡ owners_in (slot_at slots first) → links ≡ links_of (graph_of slots first) → IsDying H slots first [] → IsDying H new next links
-  IsDying-taken H slots new first next links not_end gone apart owners same d =
-      rw (owners, same) (IsDying-remove H slots new first not_end gone apart d)
-
   -- once nothing waits, the owners are counted anew
   pub IsDying-done : (H : ℕ → ℕ) (slots : List (Option (Slot T))) → IsDying H slots (2 ^ 64 - 1) [] → (l : ℕ) → owners_in (slot_at slots l) ≡ H l + places_at slots l
   IsDying-done H slots d l = omega (arith, d.counted l (IsThreaded-none slots d.dead d.threaded l))
@@ -194,16 +147,6 @@ module _ {T : Type 0} where
       step [] threaded waiting = absurd (not_end threaded)
       step (x ∷ xs) threaded waiting = (waiting first (omega (arith, count-cons first x xs, test_same x first (sym threaded.0)))).2
 
-  -- a count of rows, after one is gone
-  pub sum-remove : (f : Option (Row T) → ℕ) → f None ≡ 0 → (slots new : List (Option (Slot T))) (first : ℕ) → slot_at new first ≡ None → ApartAt slots new first → sum_by f (rows_of_slots new) + f (graph_of slots first) ≡ sum_by f (rows_of_slots slots)
-  sum-remove f none slots new first gone apart =
-      let same : (k : ℕ) → k ≢ first → get_or (rows_of_slots new) k None ≡ get_or (rows_of_slots slots) k None =
-      λ k other. row_at-slots new k ∙ ap row_of_slot (apart k other) ∙ sym (row_at-slots slots k) in
-      let sums = sum_by-apart f None none (rows_of_slots slots) (rows_of_slots new) first same in
-      let read = ap f (row_at-slots slots first) in
-      let blank = ap f (row_at-slots new first ∙ ap row_of_slot gone) in
-      omega (arith, sums, read, blank, none)
-
   -- a count of rows, after one is added
   pub sum-add : (f : Option (Row T) → ℕ) → f None ≡ 0 → (slots new : List (Option (Slot T))) (key : ℕ) (e : Slot T) → slot_at slots key ≡ None → slot_at new key ≡ Some e → ApartAt slots new key → sum_by f (rows_of_slots new) ≡ sum_by f (rows_of_slots slots) + f (Some e.row)
   sum-add f none slots new key e was is apart =
@@ -213,12 +156,6 @@ module _ {T : Type 0} where
       let blank = ap f (row_at-slots slots key ∙ ap row_of_slot was) in
       let read = ap f (row_at-slots new key ∙ ap row_of_slot is) in
       omega (arith, sums, read, blank, none)
-
-  pub Thins-remove : (first_slots slots new : List (Option (Slot T))) (first : ℕ) → slot_at new first ≡ None → ApartAt slots new first → Thins first_slots slots → Thins first_slots new
-  Thins-remove first_slots slots new first gone apart thins l = elim (cases_eq l first) as (λ _. (graph_of new l ≡ None) ⊎ (graph_of new l ≡ graph_of first_slots l)) [
-    | inl same ↦ inl (ap (graph_of new) same ∙ ap row_of_slot gone)
-    | inr other ↦ rw (apart l other) (thins l)
-  ]
 
   pub Thins-rows : (first_slots slots new : List (Option (Slot T))) → rows_of_slots new ≡ rows_of_slots slots → Thins first_slots slots → Thins first_slots new
   Thins-rows first_slots slots new rows thins l =

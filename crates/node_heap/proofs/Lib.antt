@@ -34,4 +34,13 @@ pub mod Rewritten
 pub mod Copied
 pub mod Owned
 pub mod Freed
+pub mod MoreOwners
+pub mod PairLemmas
+pub mod Dropping
+pub mod SharedTable
+pub mod Changed
+pub mod Leaving
+pub mod Giving
+pub mod Dropped
+pub mod Pairing
 pub mod CallerLemmas

@@ -181,17 +181,6 @@ module _ {T : Type 0} where
         falls = λ l k has. let there = ap (λ r. count k (links_of r)) (graph l) in counted.falls l k (omega (arith, there, has));
       }
 
-  -- one owner more is one hold more
-  pub holds-more : (old new : List (Option (Slot T))) (place n : ℕ) (hs hs' : List ℕ) → hs ≡ holds_in old → hs' ≡ holds_in new → SetsOwners old new place n → rows_of_slots new ≡ rows_of_slots old → IsCounted old → n ≡ owners_in (slot_at old place) + 1 → (k : ℕ) → get_or hs' k 0 ≡ get_or hs k 0 + one_at place k
-  holds-more old new place n hs hs' s s' sets rows counted more k =
-      let hold : get_or hs k 0 ≡ owners_in (slot_at old k) - places_at old k = ap (λ xs. get_or xs k 0) s ∙ holds_at-slots old k in
-      let hold' : get_or hs' k 0 ≡ owners_in (slot_at new k) - places_at new k = ap (λ xs. get_or xs k 0) s' ∙ holds_at-slots new k in
-      let placed_in : places_at new k ≡ places_at old k = ap (λ xs. places_in xs k) rows in
-      elim (cases_eq k place) as (λ _. get_or hs' k 0 ≡ get_or hs k 0 + one_at place k) [
-        | inl same ↦ omega (arith, test_same k place same, hold, hold', placed_in, ap (λ j. owners_in (slot_at new j)) same, ap (λ j. owners_in (slot_at old j)) same, sets.owners, counted.places k, more)
-        | inr other ↦ omega (arith, test_other k place other, hold, hold', placed_in, ap owners_in (sets.others k other))
-      ]
-
   -- one owner less is one hold less
   pub holds-less : (old new : List (Option (Slot T))) (place n : ℕ) (hs hs' : List ℕ) → hs ≡ holds_in old → hs' ≡ holds_in new → SetsOwners old new place n → rows_of_slots new ≡ rows_of_slots old → places_at old place ≤ n → n + 1 ≡ owners_in (slot_at old place) → (k : ℕ) → get_or hs' k 0 + one_at place k ≡ get_or hs k 0
   holds-less old new place n hs hs' s s' sets rows enough fewer k =

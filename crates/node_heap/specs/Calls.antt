@@ -1,5 +1,5 @@
 -- What calls do to a heap, as records that a caller composes.
-use Rattle.std.specs.Prelude.{◌≡◌, ◌≢◌, ◌↔◌, ℕ, ◌+◌, ◌-◌, ◌^◌, ◌<◌, ◌≤◌, List, length, Some, None, IsSome, min, max}
+use Rattle.std.specs.Prelude.{◌≡◌, ◌≢◌, ◌↔◌, ℕ, ◌+◌, ◌-◌, ◌^◌, ◌<◌, ◌≤◌, List, [], ◌∷◌, length, Some, None, IsSome, min, max}
 use Rattle.node_heap.specs.Links.{count, IsReached, SameBelow}
 use Rattle.node_heap.specs.Forms.{Row, links_of, Tree, IsTree}
 use Rattle.node_heap.specs.Heap.{Heap, row_at, form_at, links_at, holds_at, owners_at, hold_count, live_count, cell_count, node_count, one_at, IsGraph}
@@ -122,6 +122,17 @@ module _ {T : Type 0} where
     pub few_cells : cells ≤ c
     pub few_nodes : nodes ≤ n
     pub makes : Makes old new cells nodes
+
+  -- the new heap has this row besides, held once, for which these holds were spent; the links that it has in common with an old
+  -- row have an owner more
+  pub record AddsLike (old new : Heap T) (link : ℕ) (row : Row T) (kept spent : List ℕ) : Type 0 where
+    pub fresh : row_at old link ≡ None
+    pub here : row_at new link ≡ Some row
+    pub others : (k : ℕ) → k ≢ link → row_at new k ≡ row_at old k
+    pub owners : (k : ℕ) → owners_at new k ≡ owners_at old k + (one_at link k + count k kept)
+    pub sole : owners_at new link ≡ 1
+    pub builds : Builds old new spent (link ∷ []) 0 1
+    pub makes : Makes old new 0 1
 
   -- spares and rows of each kind are together no fewer, and the number made rises at least by the rows that
   -- came, up to its greatest value

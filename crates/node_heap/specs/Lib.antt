@@ -3,6 +3,7 @@ pub mod Forms
 pub mod Heap
 pub mod Calls
 pub mod Layout
+pub mod Pairs
 pub mod Nodes
 pub mod Small
 pub mod Held

@@ -1,5 +1,6 @@
 //! The links of a row.
-ghost use Rattle.std.specs.Prelude.{◌<◌, [], length, take, ◌≡◌, ◌+◌, ◌-◌, ◌≤◌, slice_set, slice_index, insert, remove};
+ghost use Rattle.std.specs.Prelude.{◌<◌, [], length, take, ◌≡◌, ◌+◌, ◌-◌, ◌≤◌, slice_set, slice_index, insert, remove, IfSome};
+ghost use Rattle.node_heap.specs.Pairs.{only, without, with_link};
 
 use crate::row::Link;
 use std::marker::Model;
@@ -98,6 +99,45 @@ impl RowLinks {
         ensures { self.new ≡ [] }
     {
         self.len = 0;
+    }
+
+    // Gives up all links but the one at the index, if any.
+    pub(crate) fn keep_one(&mut self, index: Option<usize>)
+        requires { IfSome index (λ i. i < length self.old) }
+        ensures { self.new ≡ only index self.old }
+    {
+        match index {
+            None => self.len = 0,
+            Some(index) => {
+                self.items[0] = self.items[index];
+                self.len = 1;
+            }
+        }
+    }
+
+    // Takes the link at the index out, if any.
+    pub(crate) fn take_out(&mut self, index: Option<usize>)
+        requires { IfSome index (λ i. i < length self.old) }
+        ensures { self.new ≡ without index self.old }
+    {
+        match index {
+            None => {}
+            Some(index) => {
+                let _ = self.remove(index);
+            }
+        }
+    }
+
+    // Puts the link at its index, if any.
+    pub(crate) fn put_in(&mut self, came: &Option<(usize, Link)>)
+        requires index { IfSome came.now (λ c. c.0 ≤ length self.old) }
+        requires room { IfSome came.now (λ _. length self.old < 32) }
+        ensures { self.new ≡ with_link came.now self.old }
+    {
+        match came {
+            None => {}
+            Some(came) => self.insert(came.0, came.1),
+        }
     }
 
     /// Puts these links, at most 32, in place of all.

@@ -1,10 +1,11 @@
 //! Reading that is counted.
-ghost use Rattle.std.specs.Prelude.{◌≡◌, ◌+◌, ◌<◌, ⊤, IsSome, option_copied};
+ghost use Rattle.std.specs.Prelude.{◌≡◌, ◌+◌, ◌<◌, ⊤, IsSome, option_copied, option_map};
 ghost use Rattle.node_heap.specs.Forms.{links_of, value_of, head_of};
-ghost use Rattle.node_heap.specs.Heap.{row_at, IsGraph};
+ghost use Rattle.node_heap.specs.Heap.{row_at, form_at, IsGraph};
+ghost use Rattle.node_heap.specs.Reads.{kind_said};
 
 use crate::heap::Heap;
-use crate::row::{Head, Link};
+use crate::row::{Head, Kind, Link};
 use std::alloc::AllocError;
 use std::marker::{Brand, Model};
 use std::mem::size_of;
@@ -94,6 +95,16 @@ impl<'h, T> Glass<'h, T> {
     {
         steps.tick();
         self.heap.head(link)
+    }
+
+    /// What a live link's node is, without its sums, and none for a cell. It takes one step.
+    pub fn kind<L: Ledger>(&self, link: Link, steps: &mut Steps<L>) -> Option<Kind>
+        requires { IsSome (row_at (lent self.now) link) }
+        ensures kind { option_map kind_said result ≡ head_of (form_at (lent self.now) link) }
+        ensures step { steps.new ≡ steps.old + 1 }
+    {
+        steps.tick();
+        self.heap.kind(link)
     }
 
     /// The links of a live link's row, at most 32. A cell has none. It takes one step.

@@ -1,17 +1,18 @@
 //! The heap and its calls.
-ghost use Rattle.std.specs.Prelude.{◌≡◌, ◌≢◌, ℕ, ◌+◌, ◌*◌, ◌∷◌, None, ◌-◌, ◌^◌, ◌<◌, ◌≤◌, ◌↔◌, [], length, Some, IsSome, OnOk, OnErr, IsOk, option_copied, option_map, List, slice_index, slice_set, insert, remove};
+ghost use Rattle.std.specs.Prelude.{◌≡◌, ◌≢◌, ℕ, ◌+◌, ◌*◌, ◌∷◌, None, ◌-◌, ◌^◌, ◌<◌, ◌≤◌, ◌↔◌, [], length, Some, IsSome, OnOk, OnErr, IsOk, IsTrue, option_copied, option_map, List, slice_index, slice_set, insert, remove, IfSome};
 ghost use Rattle.node_heap.specs.Links.{count, Reaches};
 ghost use Rattle.node_heap.specs.Forms.{cell, node, links_of, value_of, head_of, is_cell, is_node};
 ghost use Rattle.node_heap.specs.Reads.{kind_said, sums_in, IsTrieForm};
 ghost use Rattle.node_heap.specs.Heap.{row_at, form_at, links_at, holds_at, owners_at, live_count, hold_count, one_at, HasSpares, IsGraph, most_holds};
-ghost use Rattle.node_heap.specs.Calls.{KeepsBelow, SameRows, Adds, AddsOwner, KeepsOwners, Makes, Releases, Extends, KeepsHeld, KeepsTrees, Unchanged, HasGreater, Builds};
+ghost use Rattle.node_heap.specs.Calls.{KeepsBelow, SameRows, Adds, AddsOwner, KeepsOwners, Makes, Releases, Extends, KeepsHeld, KeepsTrees, Unchanged, HasGreater, Builds, AddsLike};
+ghost use Rattle.node_heap.specs.Pairs.{without, changed_links, came};
 ghost use Rattle.node_heap.specs.InPlace.{child_at, other_at, Writes, Changes};
-ghost use Rattle.node_heap.specs.Layout.{graph_of, slot_at, owners_in, filled_count, Copies, rows_of_slots, IsCounted, IsDying, IsLow, KeepsRoom, Thins, cells_in, nodes_in};
+ghost use Rattle.node_heap.specs.Layout.{graph_of, slot_at, owners_in, filled_count, Copies, IsCounted, IsDying, IsLow, Thins, cells_in, nodes_in};
 
 use crate::entry::RowLinks;
 use crate::lists::ROWS;
+use crate::pairs::Shared;
 use crate::row::{Head, Kind, Link, TrieRef};
-use crate::table::Table;
 use elem_core::NoMemory;
 use std::alloc::Global;
 use std::marker::Model;
@@ -19,7 +20,7 @@ use std::marker::Model;
 /// Rows with their owners counted, and spares of which more rows are made.
 #[derive(Drop)]
 pub struct Heap<T> {
-    table: Table<T>,
+    table: Shared<T>,
     made: u64,
 }
 
@@ -46,7 +47,7 @@ impl<T> Heap<T> {
         ensures graph { IsGraph result }
     {
         Heap {
-            table: Table::new(alloc),
+            table: Shared::new(alloc),
             made: 0,
         }
     }
@@ -61,7 +62,7 @@ impl<T> Heap<T> {
 
     /// In every heap links and holds lead to rows, each row is reached from a hold, and each link leads down: a law, for a proof
     /// that needs it before any other call tells it. The call does nothing.
-    pub fn is_graph(&self)
+    pub fn rows_form_a_graph(&self)
         ensures { IsGraph self.now }
     {
         // A field that is read tells the proof what is true of all of them.
@@ -81,6 +82,14 @@ impl<T> Heap<T> {
         ensures { result ≡ owners_at self.now link }
     {
         self.table.owners(link.place)
+    }
+
+    /// Whether a live link has one owner.
+    pub fn is_alone(&self, link: Link) -> bool
+        requires { IsSome (row_at self.now link) }
+        ensures { IsTrue result ↔ (owners_at self.now link ≡ 1) }
+    {
+        self.table.has_one_owner(link.place)
     }
 
     /// Makes room, so that so many cells and so many nodes can be made without memory: the spares of each kind are then what
@@ -172,7 +181,7 @@ impl<T> Heap<T> {
         ensures keeps { KeepsHeld (λ _. 0) self.old self.new }
         ensures trees { KeepsTrees self.old self.new }
     {
-        *self.table.owners_mut(link.place) += 1;
+        self.hold_all(&[link]);
     }
 
     /// One hold more of each of these live links for each place that it takes there. All holds together are at most 2^60 then.
@@ -189,7 +198,7 @@ impl<T> Heap<T> {
         ensures keeps { KeepsHeld (λ _. 0) self.old self.new }
         ensures trees { KeepsTrees self.old self.new }
     {
-        add_owners(&mut self.table, links);
+        self.table.add_owners(links);
     }
 
     /// The value of a live link's cell, and none for a node.
@@ -259,13 +268,12 @@ impl<T> Heap<T> {
         ensures builds { Builds self.old self.new (link ∷ []) (result ∷ []) 0 1 }
         ensures makes { Makes self.old self.new 0 (other_at link result) }
     {
-        let owners = self.table.owners(link.place);
-        if owners == 1 {
+        if self.table.is_alone(link.place) {
             return link;
         }
         let place = copied(&mut self.table, link.place);
         self.made = self.made.saturating_add(1);
-        self.table.set_owners(link.place, owners - 1);
+        self.table.drop_owner(link.place);
         Link { place }
     }
 
@@ -289,8 +297,7 @@ impl<T> Heap<T> {
         ensures makes { Makes self.old self.new 0 (other_at (child_at self.old parent index) result) }
     {
         let child = self.table.links(parent.place)[index];
-        let owners = self.table.owners(child.place);
-        if owners == 1 {
+        if self.table.is_alone_below(parent.place, child.place) {
             return child;
         }
         let place = copied(&mut self.table, child.place);
@@ -298,7 +305,7 @@ impl<T> Heap<T> {
         let copy = Link { place };
         // The answer is the child, which has a place less then.
         let _ = self.table.replace_link(parent.place, index, copy);
-        self.table.set_owners(child.place, owners - 1);
+        self.table.drop_owner(child.place);
         copy
     }
 
@@ -361,6 +368,79 @@ impl<T> Heap<T> {
     {
         self.table.set_head(parent.place, head);
     }
+
+    /// A node like this one but for its head and the link at an index, made of a spare, which the caller holds once. It spends the new
+    /// link's hold. The other links have an owner more, as if they were held for it.
+    pub fn with_replaced(&mut self, row: Link, head: Head, index: usize, new: Link) -> Link
+        requires index { index < length (links_at self.old row) }
+        requires held { 0 < holds_at self.old new }
+        requires spare { 0 < self.old.spare_nodes }
+        ensures adds { AddsLike self.old self.new result (node head (slice_set (links_at self.old row) index new)) (remove (links_at self.old row) index) (new ∷ []) }
+    {
+        self.changed(row, head, Some(index), Some((index, new)))
+    }
+
+    /// The same with the new link at an index, before those that stand there and after. The node has fewer than 32 links.
+    pub fn with_inserted(&mut self, row: Link, head: Head, index: usize, new: Link) -> Link
+        requires node { is_node (row_at self.old row) ≡ 1 }
+        requires index { index ≤ length (links_at self.old row) }
+        requires room { length (links_at self.old row) < 32 }
+        requires held { 0 < holds_at self.old new }
+        requires spare { 0 < self.old.spare_nodes }
+        ensures adds { AddsLike self.old self.new result (node head (insert (links_at self.old row) index new)) (links_at self.old row) (new ∷ []) }
+    {
+        self.changed(row, head, None, Some((index, new)))
+    }
+
+    /// The same without the link at an index. All holds together are below 2^60 before.
+    pub fn with_removed(&mut self, row: Link, head: Head, index: usize) -> Link
+        requires index { index < length (links_at self.old row) }
+        requires spare { 0 < self.old.spare_nodes }
+        requires few { hold_count self.old < most_holds }
+        ensures adds { AddsLike self.old self.new result (node head (remove (links_at self.old row) index)) (remove (links_at self.old row) index) [] }
+    {
+        self.changed(row, head, Some(index), None)
+    }
+
+    /// The same without the link at one index, and with the new link at an index of those that are left.
+    pub fn with_turned(
+        &mut self,
+        row: Link,
+        head: Head,
+        out: usize,
+        index: usize,
+        new: Link,
+    ) -> Link
+        requires out { out < length (links_at self.old row) }
+        requires index { index < length (links_at self.old row) }
+        requires held { 0 < holds_at self.old new }
+        requires spare { 0 < self.old.spare_nodes }
+        ensures adds { AddsLike self.old self.new result (node head (insert (remove (links_at self.old row) out) index new)) (remove (links_at self.old row) out) (new ∷ []) }
+    {
+        self.changed(row, head, Some(out), Some((index, new)))
+    }
+
+    // A node that is made of this one by one change: one link out, if any, and one in, if any.
+    fn changed(
+        &mut self,
+        row: Link,
+        head: Head,
+        out: Option<usize>,
+        into: Option<(usize, Link)>,
+    ) -> Link
+        requires node { is_node (row_at self.old row) ≡ 1 }
+        requires out { IfSome out (λ i. i < length (links_at self.old row)) }
+        requires into { IfSome into (λ i. i.0 ≤ length (without out (links_at self.old row))) }
+        requires room { out ≡ None → IfSome into (λ _. length (links_at self.old row) < 32) }
+        requires held { IfSome into (λ i. 0 < holds_at self.old i.1) }
+        requires spare { 0 < self.old.spare_nodes }
+        requires few { into ≡ None → hold_count self.old < most_holds }
+        ensures adds { AddsLike self.old self.new result (node head (changed_links out into (links_at self.old row))) (without out (links_at self.old row)) (came into) }
+    {
+        self.made = self.made.saturating_add(1);
+        let place = self.table.put_changed(row.place, head, out, &into);
+        Link { place }
+    }
 }
 
 impl<T: Drop> Heap<T> {
@@ -374,7 +454,7 @@ impl<T: Drop> Heap<T> {
         ensures keeps { KeepsHeld (one_at link) self.old self.new }
         ensures trees { KeepsTrees self.old self.new }
     {
-        let first = drop_places(&mut self.table, &[link], END);
+        let first = self.table.drop_places(&[link], END);
         free_waiting(&mut self.table, first);
     }
 }
@@ -383,7 +463,7 @@ impl<T: Drop> Heap<T> {
 const END: usize = usize::MAX;
 
 // Frees the rows that wait from `first` on, and those that have no owner then.
-fn free_waiting<T: Drop>(table: &mut Table<T>, first: usize)
+fn free_waiting<T: Drop>(table: &mut Shared<T>, first: usize)
     requires dying { (H : ℕ → ℕ) × IsDying H table.old.slots first [] }
     requires low { IsLow table.old.slots }
     ensures freed { (H : ℕ → ℕ) → IsDying H table.old.slots first [] → IsDying H table.new.slots (2 ^ 64 - 1) [] }
@@ -403,34 +483,12 @@ fn free_waiting<T: Drop>(table: &mut Table<T>, first: usize)
     let mut next = first;
     while next != END {
         let owners = table.take(next, &mut links);
-        next = drop_places(table, links.as_slice(), owners);
+        next = table.drop_places(links.as_slice(), owners);
     }
-}
-
-// Takes an owner from each of the links, and puts those that have none then in front of the rows that wait.
-fn drop_places<T>(table: &mut Table<T>, links: &[Link], first: usize) -> usize
-    requires dying { (H : ℕ → ℕ) × IsDying H table.old.slots first links.now }
-    requires low { IsLow table.old.slots }
-    ensures dropped { (H : ℕ → ℕ) → IsDying H table.old.slots first links.now → IsDying H table.new.slots result [] }
-    ensures rows { rows_of_slots table.new.slots ≡ rows_of_slots table.old.slots }
-    ensures low { IsLow table.new.slots }
-    ensures room { KeepsRoom table.old table.new }
-{
-    let mut next = first;
-    for link in links {
-        let owners = table.owners_mut(link.place);
-        if *owners == 1 {
-            *owners = next;
-            next = link.place;
-        } else {
-            *owners -= 1;
-        }
-    }
-    next
 }
 
 // A copy of the node at the place, with one owner, and one owner more for each place of its links.
-fn copied<T>(table: &mut Table<T>, place: usize) -> usize
+fn copied<T>(table: &mut Shared<T>, place: usize) -> usize
     requires counted { IsCounted table.old.slots }
     requires node { is_node (graph_of table.old.slots place) ≡ 1 }
     requires room { (l : ℕ) → owners_in (slot_at table.old.slots l) + 32 < 2 ^ 64 }
@@ -446,19 +504,6 @@ fn copied<T>(table: &mut Table<T>, place: usize) -> usize
     let mut copies = RowLinks::new();
     let head = table.copy_node(place, &mut copies);
     let links = copies.as_slice();
-    add_owners(table, links);
+    table.add_owners(links);
     table.put_node(head, links)
-}
-
-// Gives each of the links an owner for each of its places there.
-fn add_owners<T>(table: &mut Table<T>, links: &[Link])
-    requires live { (l : ℕ) → 0 < count l links.now → IsSome (slot_at table.old.slots l) }
-    requires room { (l : ℕ) → owners_in (slot_at table.old.slots l) + length links.now < 2 ^ 64 }
-    ensures owners { (l : ℕ) → owners_in (slot_at table.new.slots l) ≡ owners_in (slot_at table.old.slots l) + count l links.now }
-    ensures rows { rows_of_slots table.new.slots ≡ rows_of_slots table.old.slots }
-    ensures room { KeepsRoom table.old table.new }
-{
-    for child in links {
-        *table.owners_mut(child.place) += 1;
-    }
 }

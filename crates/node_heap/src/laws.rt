@@ -15,7 +15,7 @@ pub fn unfolds_to_one_tree<T>(heap: &Heap<T>, link: Link)
     ensures one { HasOneTree (form_at heap.now) link }
     ensures reached { TreesFollowReached T }
 {
-    heap.is_graph();
+    heap.rows_form_a_graph();
     // The link is there for the clauses alone.
     let _ = link;
 }
@@ -26,7 +26,7 @@ pub fn rows_are_owned<T>(heap: &Heap<T>)
     ensures owned { (l : ℕ) → IsSome (row_at heap.now l) → 0 < owners_at heap.now l }
     ensures kinds { live_count heap.now ≡ cell_count heap.now + node_count heap.now }
 {
-    heap.is_graph();
+    heap.rows_form_a_graph();
 }
 
 /// What a held link doesn't reach: the last row of a path of rows with one owner each, where it doesn't reach the first; and

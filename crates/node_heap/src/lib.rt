@@ -11,6 +11,7 @@ mod heap;
 mod laws;
 mod lists;
 mod nodes;
+mod pairs;
 mod rooms;
 mod row;
 mod rows;

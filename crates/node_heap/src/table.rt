@@ -6,7 +6,7 @@ ghost use Rattle.std.specs.Borrow.{sem};
 ghost use Rattle.node_heap.specs.Forms.{cell, node, links_of, value_of, head_of, kind_of, is_node};
 ghost use Rattle.node_heap.specs.Reads.{kind_said, sums_in};
 ghost use Rattle.node_heap.specs.declared.row.Head.TheVariants.{Trie};
-ghost use Rattle.node_heap.specs.Layout.{graph_of, slot_at, owners_in, rows_of_slots, filled_count, SetsOwners, Rewrites, PutsIn, TakesOut, KeepsRoom};
+ghost use Rattle.node_heap.specs.Layout.{graph_of, slot_at, owners_in, filled_count, Rewrites, PutsIn, TakesOut, KeepsRoom};
 
 use crate::entry::RowLinks;
 use crate::lists::{empty_cell, put_cell, reserve_cells};
@@ -220,22 +220,25 @@ impl<T> Table<T> {
         nodes.links(place / 2)
     }
 
+    // Puts the links of the row at the place in the list.
+    pub(crate) fn copy_links(&self, place: usize, links: &mut RowLinks)
+        requires { IsSome (slot_at self.now.slots place) }
+        ensures { links.new ≡ links_of (graph_of self.now.slots place) }
+    {
+        let nodes = &self.nodes;
+        if place % 2 == 0 {
+            links.clear();
+            return;
+        }
+        links.rewrite(nodes.links(place / 2));
+    }
+
     // The head of the node at the place, whose links it puts in the list.
     pub(crate) fn copy_node(&self, place: usize, links: &mut RowLinks) -> Head
         requires { is_node (graph_of self.now.slots place) ≡ 1 }
         ensures { graph_of self.now.slots place ≡ Some (node result links.new) }
     {
         self.nodes.copy(place / 2, links)
-    }
-
-    #[tactic(auto, using(crate::proofs::Slots::reown_rows))]
-    pub(crate) fn set_owners(&mut self, place: usize, owners: usize)
-        requires { IsSome (slot_at self.old.slots place) }
-        ensures sets { SetsOwners self.old.slots self.new.slots place owners }
-        ensures rows { rows_of_slots self.new.slots ≡ rows_of_slots self.old.slots }
-        ensures room { KeepsRoom self.old self.new }
-    {
-        *self.owners_mut(place) = owners;
     }
 
     // Puts the link in place of the one at the index, which it answers.

@@ -18,7 +18,7 @@ pub fn order<T>(alloc: Global, heap: &Heap<T>, roots: &[Link]) -> Result<Order, 
     ensures value { IfOk result (λ ks. ks ≡ order_of heap.now roots.now) }
     ensures is_order { IfOk result (λ ks. IsOrder (links_at heap.now) roots.now ks) }
 {
-    heap.is_graph();
+    heap.rows_form_a_graph();
     let mut seen = IndexSet::new(alloc);
     for root in roots {
         walk(alloc, heap, *root, &mut seen)?;

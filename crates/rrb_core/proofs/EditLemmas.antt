@@ -13,7 +13,7 @@ use Rattle.node_heap.proofs.BuildLemmas.{Builds-then, Builds-more}
 use Rattle.node_heap.specs.declared.row.TheConstants.{MOST_HEIGHT}
 use Rattle.rrb_core.specs.Seq.{seq_at, IsThick, IsWell}
 use Rattle.rrb_core.specs.Push.{last_in, IsPacked, into_leaf, into_last, into_new, IsPushedRoot, into_root, over_root}
-use Rattle.rrb_core.specs.Vector.{KeepsSums, sums_at, height_at, elements, IsGoodVector, IsVectorOf, HasSums}
+use Rattle.rrb_core.specs.Vector.{sums_at, height_at, elements, IsGoodVector, IsVectorOf, HasSums}
 use Rattle.rrb_core.specs.Build.{IsRowOf, AreRows}
 use Rattle.rrb_core.specs.Levels.{rows_at, rows_of, HasFrontTo, TakesFirstRows}
 use Rattle.rrb_core.specs.Edit.{links_with, CanEdit, CanEditRoot, CanPlace, MakesRow, Pushes, SetsAt, Takes, IsAtFront}
@@ -491,7 +491,3 @@ module _ {T : Type 0} {old mid : Heap T} {n l i child skip : ℕ} {ks : List ℕ
 
   pub gathered-same : flat_map (seq_at (form_at mid) n) ks ≡ flat_map (seq_at (form_at old) n) (links_with (links_at old l) i child skip)
   gathered-same = rw is (items-stay (live-stays can.graph ext) n (links_with (links_at old l) i child skip) (rows-live old n (links_with (links_at old l) i child skip) can.rows))
-
-  -- what such a row keeps
-  pub gathered-sums : (ss : List ℕ) → KeepsSums (form_at old) n (links_with (links_at old l) i child skip) ss → KeepsSums (form_at mid) n ks ss
-  gathered-sums ss kept = rw is (keeps-stay (live-stays can.graph ext) n (links_with (links_at old l) i child skip) ss (rows-live old n (links_with (links_at old l) i child skip) can.rows) kept)

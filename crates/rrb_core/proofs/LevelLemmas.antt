@@ -53,10 +53,10 @@ module _ (L : Links) where
 -- all of the rows, or one row and none of them
 abbrev pub front-whole : (rows : List ℕ) → HasFront rows rows
 front-whole rows =
-    record { place = length rows; inside = omega arith; cut = []; one = omega arith; is = sym (append-nil (take (length rows) rows) ∙ take_all (length rows) rows (omega arith)) }
+    record { place = length rows; inside = omega arith; last = []; one = omega arith; is = sym (append-nil (take (length rows) rows) ∙ take_all (length rows) rows (omega arith)) }
 
 abbrev pub front-few : {rows all : List ℕ} → length all ≤ 1 → HasFront rows all
-front-few {rows} {all} few = record { place = 0; inside = omega arith; cut = all; one = few; is = refl }
+front-few {rows} {all} few = record { place = 0; inside = omega arith; last = all; one = few; is = refl }
 
 -- all of the rows, whatever the count
 pub keeps-all : (s : ℕ → List ℕ) (count : ℕ) (rows : List ℕ) → HasFrontTo s count rows rows

@@ -94,9 +94,9 @@ module _ (s : ℕ → List ℕ) where
         front = record {
           place = length before + has.place;
           inside = omega (arith, has.inside, length-append before rows);
-          cut = has.cut;
+          last = has.last;
           one = has.one;
-          is = ap (λ (xs : List ℕ). before ++ xs) has.is ∙ rw (take-past before rows has.place) (sym (append_assoc before (take has.place rows) has.cut));
+          is = ap (λ (xs : List ℕ). before ++ xs) has.is ∙ rw (take-past before rows has.place) (sym (append_assoc before (take has.place rows) has.last));
         };
         past = λ lt.
             let up : length before + has.place + 1 ≡ length before + (has.place + 1) = omega arith in
@@ -115,9 +115,9 @@ module _ (s : ℕ → List ℕ) where
         front = record {
           place = has.place;
           inside = omega (arith, has.inside, size);
-          cut = has.cut;
+          last = has.last;
           one = has.one;
-          is = has.is ∙ ap (λ (xs : List ℕ). xs ++ has.cut) (upto has.place has.inside);
+          is = has.is ∙ ap (λ (xs : List ℕ). xs ++ has.last) (upto has.place has.inside);
         };
         past = λ lt. elim (cases_lt has.place (length first)) as (λ _. count < length (flat_map s (take (has.place + 1) rows))) [
           | inl lower ↦ rw (upto (has.place + 1) (omega (arith, lower))) at (keeps.past lower)

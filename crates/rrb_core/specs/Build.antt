@@ -2,7 +2,7 @@
 use Rattle.std.specs.Prelude.{◌≡◌, ℕ, ◌-◌, ◌≤◌, List, [], ◌∷◌, length, take}
 use Rattle.std.specs.List.{All}
 use Rattle.node_heap.specs.Heap.{Heap, row_at, form_at, links_at}
-use Rattle.node_heap.specs.Calls.{Builds, SameRows, KeepsOldOwners}
+use Rattle.node_heap.specs.Calls.{Builds, SameRows}
 use Rattle.rrb_core.specs.Seq.{seq_at, IsThick, IsWell}
 use Rattle.rrb_core.specs.Vector.{HasSums}
 
@@ -19,10 +19,6 @@ module _ {T : Type 0} where
     pub thick : All (IsThick (form_at h) n) (take (length ks - 1) ks)
     pub not_empty : All (λ k. 1 ≤ length (links_at h k)) ks
     pub sums : All (HasSums h n) ks
-
-  -- KeepsOldOwners, under the name by which callers know it
-  abbrev pub RowsKeepOwners : Heap T → Heap T → Type 0
-  RowsKeepOwners old new = KeepsOldOwners old new
 
   -- one hold more of the root, and nothing else has changed
   pub record Shares (old new : Heap T) (l : ℕ) : Type 0 where

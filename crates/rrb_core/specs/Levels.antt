@@ -15,9 +15,9 @@ rows_at L (suc n) m l = if m == suc n then l ∷ [] else flat_map (rows_at L n m
 pub record HasFront (rows all : List ℕ) : Type 0 where
   pub place : ℕ
   pub inside : place ≤ length rows
-  pub cut : List ℕ
-  pub one : length cut ≤ 1
-  pub is : all ≡ take place rows ++ cut
+  pub last : List ℕ
+  pub one : length last ≤ 1
+  pub is : all ≡ take place rows ++ last
 
 -- a front of these rows, among its first ones all that end within the first `count` elements: the row behind these ends past
 -- them; `elements_of` gives the elements of a row

@@ -28,4 +28,4 @@ pub use rows::{
     Gathered, ROW_LINKS, full_size, gathered, height_of, inner_over, leaf_over, size, sums_of,
     sums_over,
 };
-pub use search::{Spot, only_element, spot_of};
+pub use search::{IndexSpot, only_element, spot_of};

@@ -1,7 +1,8 @@
 //! Rows of a vector: what they state, and how they are made.
-ghost use Rattle.std.specs.Prelude.{◌≡◌, ℕ, suc, ◌+◌, ◌-◌, ◌*◌, ◌^◌, ◌<◌, ◌≤◌, ◌≢◌, ◌↔◌, [], ◌∷◌, ◌++◌, length, take, drop, slice_index, None, IsSome, IsTrue};
+ghost use Rattle.std.specs.Prelude.{◌≡◌, ℕ, suc, ◌+◌, ◌-◌, ◌*◌, ◌^◌, ◌<◌, ◌≤◌, ◌≢◌, ◌↔◌, [], ◌∷◌, ◌++◌, length, take, drop, slice_index, None, Some, IsSome, IsTrue};
 ghost use Rattle.std.specs.List.{flat_map};
 ghost use Rattle.node_heap.specs.Links.{count};
+ghost use Rattle.node_heap.specs.Forms.{node};
 ghost use Rattle.node_heap.specs.Heap.{row_at, form_at, links_at, holds_at, hold_count, IsGraph, most_holds};
 ghost use Rattle.node_heap.specs.Calls.{Makes, Builds, KeepsOldOwners};
 ghost use Rattle.rrb_core.specs.Seq.{seq_at, IsWell};
@@ -398,9 +399,7 @@ fn regular_with<T>(
     requires regular { IsRegular (form_at heap.old) below (links_with (links_at heap.old link) keep child skip) }
     ensures { PlacesChild heap.old heap.new below link keep child skip result }
 {
-    let mut room = [Link::default(); ROW_LINKS];
-    let count = write_links_with(heap, &mut room[..], link, keep, child, skip);
-    inner_of(heap, &room[..count], below, Sums::from_slice(&[]))
+    placed_with(heap, link, below, Sums::from_slice(&[]), keep, child, skip)
 }
 
 // The same where `link` keeps sums, which tell those of the new row.
@@ -417,9 +416,25 @@ fn summed_with<T>(
     ensures { PlacesChild heap.old heap.new below link keep child skip result }
 {
     let sums = sums_beside(heap, link, below, keep, child, skip);
-    let mut room = [Link::default(); ROW_LINKS];
-    let count = write_links_with(heap, &mut room[..], link, keep, child, skip);
-    inner_of(heap, &room[..count], below, sums)
+    placed_with(heap, link, below, sums, keep, child, skip)
+}
+
+// The same with the sums that it keeps.
+fn placed_with<T>(
+    heap: &mut Heap<T>,
+    link: Link,
+    below: u8,
+    sums: Sums,
+    keep: usize,
+    child: Link,
+    skip: usize,
+) -> Link
+    requires place { CanPlace heap.old below link keep child skip }
+    requires sums { KeepsSums (form_at heap.old) below (links_with (links_at heap.old link) keep child skip) sums }
+    ensures { PlacesChild heap.old heap.new below link keep child skip result }
+{
+    let height = below + 1;
+    node_with(heap, link, Head::Inner { height, sums }, keep, child, skip)
 }
 
 // The same where all its children are read for its sums.
@@ -455,7 +470,39 @@ pub(crate) fn leaf_with<T>(
     ensures edits { MakesRow heap.old heap.new (element ∷ []) 0 result (links_with (links_at heap.old link) keep element skip) }
     ensures links { links_at heap.new result ≡ links_with (links_at heap.old link) keep element skip }
 {
+    node_with(heap, link, Head::Leaf, keep, element, skip)
+}
+
+// The node with this head over the first `keep` links of `link`, then `middle`, then its links from the place `skip` on. Where it is
+// `link` but for one link, the two share their owners.
+fn node_with<T>(
+    heap: &mut Heap<T>,
+    link: Link,
+    head: Head,
+    keep: usize,
+    middle: Link,
+    skip: usize,
+) -> Link
+    requires graph { IsGraph heap.old }
+    requires live { IsSome (row_at heap.old link) }
+    requires keep { keep ≤ length (links_at heap.old link) }
+    requires skip { skip ≤ length (links_at heap.old link) }
+    requires few { keep + 1 + (length (links_at heap.old link) - skip) ≤ 32 }
+    requires held { 1 ≤ holds_at heap.old middle }
+    requires spare { 1 ≤ heap.old.spare_nodes }
+    requires holds { hold_count heap.old + 64 ≤ most_holds }
+    ensures row { row_at heap.new result ≡ Some (node head (links_with (links_at heap.old link) keep middle skip)) }
+    ensures builds { Builds heap.old heap.new (middle ∷ []) (result ∷ []) 0 1 }
+{
+    let old = heap.links(link).len();
+    // A row without links has nothing to share.
+    if keep == skip && old > 0 {
+        return heap.with_inserted(link, head, keep, middle);
+    }
+    if keep + 1 == skip {
+        return heap.with_replaced(link, head, keep, middle);
+    }
     let mut room = [Link::default(); ROW_LINKS];
-    let count = write_links_with(heap, &mut room[..], link, keep, element, skip);
-    leaf_over(heap, &room[..count])
+    let count = write_links_with(heap, &mut room[..], link, keep, middle, skip);
+    heap.node(head, &room[..count])
 }

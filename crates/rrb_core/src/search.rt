@@ -10,7 +10,7 @@ use node_heap::{Heap, Link, MOST_HEIGHT};
 
 /// A child of an inner row by its place, and an element's index in that child.
 #[derive(Clone, Copy)]
-pub struct Spot {
+pub struct IndexSpot {
     /// The place of the child in the row.
     pub place: usize,
     /// The index of the element among those below the child.
@@ -46,7 +46,7 @@ pub(crate) fn sum_before(sums: &[u32], place: usize) -> u32
 /// The child of an inner row that holds the element at `index`; the children have the height `below`. Where the row keeps
 /// no sums it is the one where `index` is if all children are full, and else the search starts there, since that is never
 /// past the right child.
-pub fn spot_of<T>(heap: &Heap<T>, link: Link, below: u8, index: u32) -> Spot
+pub fn spot_of<T>(heap: &Heap<T>, link: Link, below: u8, index: u32) -> IndexSpot
     requires well { IsWell (form_at heap.now) (suc below) link }
     requires sums { HasSums heap.now (suc below) link }
     requires low { below < MOST_HEIGHT }
@@ -59,14 +59,14 @@ pub fn spot_of<T>(heap: &Heap<T>, link: Link, below: u8, index: u32) -> Spot
     let from = (u64::from(index) >> (5 * (u32::from(below) + 1))) as usize;
     if sums.is_empty() {
         let within = index - full_size(from, below + 1) as u32;
-        return Spot {
+        return IndexSpot {
             place: from,
             within,
         };
     }
     let place = place_of(sums, index, from);
     let within = index - sum_before(sums, place);
-    Spot { place, within }
+    IndexSpot { place, within }
 }
 
 // A child of an inner row by its link, and an element's index in that child.

@@ -1,16 +1,12 @@
-use Rattle.std.proofs.Common.{◌≡◌, ◌∙◌, sym, ap, refl, cond, Bool, true, false, ℕ, eq-eqb}
+use Rattle.std.proofs.Common.{◌∙◌, sym, ap, refl, cond, Bool, ℕ, eq-eqb}
 use Rattle.std.specs.Prelude.{nat_eq}
-use Rattle.std.specs.Int.{from_bool}
 use Rattle.elem_core.specs.Codes.{masked_code}
 use Rattle.node_heap.specs.Heap.{form_at}
 use Rattle.champ_chain.proofs.SpotLemmas.{same-key}
 use Rattle.champ_trie.specs.Trie.{code_by}
 use Rattle.champ_trie.proofs.ReachLemmas.{link-alone, link-differs, alike-alone}
+use Rattle.champ_trie.proofs.TurnLemmas.{as_number}
 use Rattle.champ_trie.proofs.found_alone.Goals as goal
-
-as_number : (b : Bool) → from_bool b ≡ cond b 1 0
-as_number true = refl
-as_number false = refl
 
 pub returns-in-Equal-clause-entry : goal.returns-in-Equal-clause-entry
 returns-in-Equal-clause-entry g c = λ k keyed.

@@ -5,8 +5,7 @@ use Rattle.elem_core.specs.declared.codes.TheConstants.{CODE_BITS, DEEPEST}
 use Rattle.elem_core.proofs.CodeLemmas.{masked-small}
 use Rattle.node_heap.specs.Heap.{Heap, form_at}
 use Rattle.node_heap.specs.Calls.{Builds}
-use Rattle.node_heap.proofs.Frames.{Extends-trans}
-use Rattle.node_heap.proofs.BuildLemmas.{Builds-refl, Builds-more, Builds-spare_nodes}
+use Rattle.node_heap.proofs.BuildLemmas.{Builds-refl, Builds-then, Builds-more, Builds-spare_nodes}
 use Rattle.champ_chain.specs.Entry.{Entry, link_with, others}
 use Rattle.champ_chain.specs.Chain.{IsChain}
 use Rattle.champ_chain.proofs.FrameLemmas.{forms-kept}
@@ -14,11 +13,10 @@ use Rattle.champ_trie.specs.Trie.{IsTrie, IsPlace, part, place_of, links_at_plac
 use Rattle.champ_trie.specs.Reach.{alike_in}
 use Rattle.champ_trie.specs.Edit.{IsBelow, SharesBeside}
 use Rattle.champ_trie.specs.declared.place.Place.{Place}
-use Rattle.champ_trie.proofs.PlaceLemmas.{sets-short}
 use Rattle.champ_trie.proofs.PartLemmas.{part-alike, part-link, part-others, row-kept, trie-kept, place-kept}
 use Rattle.champ_trie.proofs.ShareLemmas.{shares-kept, shares-none, shares-row, row-at, closes-row, same-node}
 use Rattle.champ_trie.proofs.ReachLemmas.{trie-row}
-use Rattle.champ_trie.proofs.LeftLemmas.{IsDeeper, node-deeper, node-chain, none-left, deepest-alike, left-places, left-stands, left-builds, chain-place, place-links}
+use Rattle.champ_trie.proofs.LeftLemmas.{IsDeeper, node-deeper, node-chain, none-left, deepest-alike, left-places, left-stands, chain-place, place-links}
 use Rattle.champ_trie.proofs.edit.+place_without.Given as given
 use Rattle.champ_trie.proofs.edit.+place_without.Goals as goal
 use Rattle.champ_trie.proofs.edit.+place_without.Goals.{In-Node}
@@ -73,38 +71,32 @@ place_without-left-requires g t c κs within =
       (within.0, (within.1, (c.requires.bits, (omega (arith, less), (c.requires.few, (c.requires.graph, (c.requires.code, (P, d.m, d.below, linked g t at, omega (arith, c.requires.trie.4, d.is, alike))))))))),
     )
 
-pub edited-requires-clause-row : goal.edited-requires-clause-row
-edited-requires-clause-row g t c =
+pub closed-requires-clause-row : goal.closed-requires-clause-row
+closed-requires-clause-row g t c =
     let E = c.requires.trie.0 in
-    let d = deeper g t (goal.at.edited-requires-clause-row g t c).In-Node (omega (arith, c.if-depth-eq-DEEPEST.false, c.requires.depth)) E c.requires.trie.1 c.requires.trie.2 in
+    let d = deeper g t (goal.at.closed-requires-clause-row g t c).In-Node (omega (arith, c.if-depth-eq-DEEPEST.false, c.requires.depth)) E c.requires.trie.1 c.requires.trie.2 in
     let P = part g.T.Ord.cmp (code_by g.T.Element.code_of c.args.bits) c.args.depth (digit_at c.args.code c.args.depth) E in
     let more = (c.place_without-left.ensures.builds P d.m d.below).extends in
     trie-row g.T.Ord.cmp (code_by g.T.Element.code_of c.args.bits) (form_at c.place_without-left.new.heap) d.m (c.args.depth + 1) c.in-Node.child P
     (trie-kept g.T.Ord.cmp (code_by g.T.Element.code_of c.args.bits) (form_at c.args.heap.now) (form_at c.place_without-left.new.heap) (forms-kept c.args.heap.now c.place_without-left.new.heap more) (suc d.m) (c.args.depth + 1) c.in-Node.child P d.below.trie)
 
-pub edited-requires-clause-graph : goal.edited-requires-clause-graph
-edited-requires-clause-graph g t c = (went g t (goal.at.edited-requires-clause-graph g t c).In-Node (omega (arith, c.if-depth-eq-DEEPEST.false, c.requires.depth)) c.place_without-left.new.heap c.place_without-left.result c.place_without-left.ensures.builds c.requires.trie.0 c.requires.trie.1 c.requires.trie.2).2.graph
+pub closed-requires-clause-graph : goal.closed-requires-clause-graph
+closed-requires-clause-graph g t c = (went g t (goal.at.closed-requires-clause-graph g t c).In-Node (omega (arith, c.if-depth-eq-DEEPEST.false, c.requires.depth)) c.place_without-left.new.heap c.place_without-left.result c.place_without-left.ensures.builds c.requires.trie.0 c.requires.trie.1 c.requires.trie.2).2.graph
 
-pub edited-requires-clause-few : goal.edited-requires-clause-few
-edited-requires-clause-few g t c =
-    let did = went g t (goal.at.edited-requires-clause-few g t c).In-Node (omega (arith, c.if-depth-eq-DEEPEST.false, c.requires.depth)) c.place_without-left.new.heap c.place_without-left.result c.place_without-left.ensures.builds c.requires.trie.0 c.requires.trie.1 c.requires.trie.2 in
+pub closed-requires-clause-few : goal.closed-requires-clause-few
+closed-requires-clause-few g t c =
+    let did = went g t (goal.at.closed-requires-clause-few g t c).In-Node (omega (arith, c.if-depth-eq-DEEPEST.false, c.requires.depth)) c.place_without-left.new.heap c.place_without-left.result c.place_without-left.ensures.builds c.requires.trie.0 c.requires.trie.1 c.requires.trie.2 in
     omega (arith, c.requires.few, did.2.total, place-links c.place_without-left.result)
 
-pub close-requires-clause-spare : goal.close-requires-clause-spare
-close-requires-clause-spare g t c =
-    let did = went g t (goal.at.close-requires-clause-spare g t c).In-Node (omega (arith, c.if-depth-eq-DEEPEST.false, c.requires.depth)) c.place_without-left.new.heap c.place_without-left.result c.place_without-left.ensures.builds c.requires.trie.0 c.requires.trie.1 c.requires.trie.2 in
-    omega (arith, Builds-spare_nodes did.2, did.1, Builds-spare_nodes c.edited.ensures.builds, c.requires.trie.4)
+pub closed-requires-clause-spare : goal.closed-requires-clause-spare
+closed-requires-clause-spare g t c =
+    let did = went g t (goal.at.closed-requires-clause-spare g t c).In-Node (omega (arith, c.if-depth-eq-DEEPEST.false, c.requires.depth)) c.place_without-left.new.heap c.place_without-left.result c.place_without-left.ensures.builds c.requires.trie.0 c.requires.trie.1 c.requires.trie.2 in
+    omega (arith, Builds-spare_nodes did.2, did.1, c.requires.trie.4)
 
-pub close-requires-clause-held : goal.close-requires-clause-held
-close-requires-clause-held g t c = λ k.
-    let did = went g t (goal.at.close-requires-clause-held g t c).In-Node (omega (arith, c.if-depth-eq-DEEPEST.false, c.requires.depth)) c.place_without-left.new.heap c.place_without-left.result c.place_without-left.ensures.builds c.requires.trie.0 c.requires.trie.1 c.requires.trie.2 in
-    omega (arith, did.2.holds k, c.edited.ensures.builds.holds k)
-
-pub close-requires-clause-few : goal.close-requires-clause-few
-close-requires-clause-few g t c =
-    let did = went g t (goal.at.close-requires-clause-few g t c).In-Node (omega (arith, c.if-depth-eq-DEEPEST.false, c.requires.depth)) c.place_without-left.new.heap c.place_without-left.result c.place_without-left.ensures.builds c.requires.trie.0 c.requires.trie.1 c.requires.trie.2 in
-    let short = sets-short c.edited.new.row.entries c.edited.new.row.nodes c.edited.new.row.links c.edited.ensures.sets in
-    omega (arith, c.requires.few, did.2.total, place-links c.place_without-left.result, c.edited.ensures.builds.total, short)
+pub closed-requires-clause-held : goal.closed-requires-clause-held
+closed-requires-clause-held g t c = λ k.
+    let did = went g t (goal.at.closed-requires-clause-held g t c).In-Node (omega (arith, c.if-depth-eq-DEEPEST.false, c.requires.depth)) c.place_without-left.new.heap c.place_without-left.result c.place_without-left.ensures.builds c.requires.trie.0 c.requires.trie.1 c.requires.trie.2 in
+    omega (arith, did.2.holds k)
 
 pub chain_place_without-requires-clause-chain : goal.chain_place_without-requires-clause-chain
 chain_place_without-requires-clause-chain g t c =
@@ -115,7 +107,7 @@ chain_place_without-requires-clause-chain g t c =
 pub returns-else-depth-eq-DEEPEST-clause-builds : goal.returns-else-depth-eq-DEEPEST-clause-builds
 returns-else-depth-eq-DEEPEST-clause-builds g t c = λ E left below.
     let did = went g t (goal.at.returns-else-depth-eq-DEEPEST-clause-builds g t c).In-Node (omega (arith, c.if-depth-eq-DEEPEST.false, c.requires.depth)) c.place_without-left.new.heap c.place_without-left.result c.place_without-left.ensures.builds E left below in
-    left-builds did.2 c.edited.ensures.builds c.close.ensures.builds (omega (arith, did.1))
+    Builds-more 0 (left + alike_in (code_by g.T.Element.code_of c.args.bits) c.args.code E) (Builds-then did.2 c.closed.ensures.builds) (omega arith) (omega (arith, did.1))
 
 pub returns-else-depth-eq-DEEPEST-clause-place : goal.returns-else-depth-eq-DEEPEST-clause-place
 returns-else-depth-eq-DEEPEST-clause-place g t c = λ E left below.
@@ -126,18 +118,18 @@ returns-else-depth-eq-DEEPEST-clause-place g t c = λ E left below.
     let equal_codes = λ (j k : g.row.T.Denot) (e : cmp j k ≡ Equal). ap (λ n. masked_code n c.args.bits) (g.met.T.Element.equal_codes j k e) in
     let key = g.P.Probe.stands_for c.args.key.now in
     let first = form_at c.place_without-left.new.heap in
-    let last = form_at c.close.new.heap in
-    let keeps = forms-kept c.place_without-left.new.heap c.close.new.heap (Extends-trans c.edited.ensures.builds.extends c.close.ensures.builds.extends) in
+    let last = form_at c.closed.new.heap in
+    let keeps = forms-kept c.place_without-left.new.heap c.closed.new.heap c.closed.ensures.builds.extends in
     let trie = trie-kept cmp code (form_at c.args.heap.now) first (forms-kept c.args.heap.now c.place_without-left.new.heap (c.place_without-left.ensures.builds P d.m d.below).extends) (suc d.m) (c.args.depth + 1) c.in-Node.child P d.below.trie in
     let next = c.digit-in-Node.ensures.read in
-    let row = c.edited.new.row in
+    let row = c.closed.ensures.place in
     let stands = place-kept cmp code first last keeps d.m (c.args.depth + 1 + 1) c.place_without-left.result (part cmp code (c.args.depth + 1) (digit_at c.args.code (c.args.depth + 1)) (others cmp key P)) (c.place_without-left.ensures.place P d.m d.below) in
     let places = left-places cmp code equal_codes first last (c.args.depth + 1) d.m c.in-Node.child c.args.code P key row.entries row.nodes row.links c.place_without-left.result keeps c.requires.code trie
-    (sym (ap (place_of row.entries row.nodes row.links) next) ∙ c.edited.ensures.here) stands
-    (λ depth entries nodes links was p small other. c.edited.ensures.others depth entries nodes links was p small (λ is. other (is ∙ next))) in
-    let whole = left-stands cmp code equal_codes c.close.new.heap (c.args.depth + 1) d.m P key row.entries row.nodes row.links c.close.result d.below.distinct d.two c.edited.ensures.sets places c.close.ensures.place in
-    subst (λ m. IsPlace last (λ k Q. IsTrie cmp code last m (c.args.depth + 1) k Q) c.close.result (part cmp code c.args.depth (digit_at c.args.code c.args.depth) (others cmp key E))) (sym d.is)
-    (subst (IsPlace last (λ k Q. IsTrie cmp code last (suc d.m) (c.args.depth + 1) k Q) c.close.result) (sym (part-others cmp code c.args.depth (digit_at c.args.code c.args.depth) key E)) whole)
+    (sym (ap (place_of row.entries row.nodes row.links) next) ∙ row.edits.here) stands
+    (λ depth entries nodes links was p small other. row.edits.others depth entries nodes links was p small (λ is. other (is ∙ next))) in
+    let whole = left-stands cmp code equal_codes c.closed.new.heap (c.args.depth + 1) d.m P key row.entries row.nodes row.links c.closed.result d.below.distinct d.two row.edits.sets places row.closes in
+    subst (λ m. IsPlace last (λ k Q. IsTrie cmp code last m (c.args.depth + 1) k Q) c.closed.result (part cmp code c.args.depth (digit_at c.args.code c.args.depth) (others cmp key E))) (sym d.is)
+    (subst (IsPlace last (λ k Q. IsTrie cmp code last (suc d.m) (c.args.depth + 1) k Q) c.closed.result) (sym (part-others cmp code c.args.depth (digit_at c.args.code c.args.depth) key E)) whole)
 
 pub returns-then-depth-eq-DEEPEST-clause-builds : goal.returns-then-depth-eq-DEEPEST-clause-builds
 returns-then-depth-eq-DEEPEST-clause-builds g t c = λ E left below.
@@ -189,17 +181,17 @@ returns-else-depth-eq-DEEPEST-clause-shares g t c = λ E left e n ls j k below r
     let P = part cmp code c.args.depth (digit_at c.args.code c.args.depth) E in
     let F = form_at c.args.heap.now in
     let M = form_at c.place_without-left.new.heap in
-    let G = form_at c.close.new.heap in
+    let G = form_at c.closed.new.heap in
     let first = forms-kept c.args.heap.now c.place_without-left.new.heap (c.place_without-left.ensures.builds P d.m d.below).extends in
-    let later = forms-kept c.place_without-left.new.heap c.close.new.heap (Extends-trans c.edited.ensures.builds.extends c.close.ensures.builds.extends) in
+    let later = forms-kept c.place_without-left.new.heap c.closed.new.heap c.closed.ensures.builds.extends in
     let old = row-at cmp code F d.m (c.args.depth + 1) c.in-Node.child P d.below.trie in
     let next = c.digit-in-Node.ensures.read in
-    let new = c.edited.new.row in
-    let here = sym (ap (place_of new.entries new.nodes new.links) next) ∙ c.edited.ensures.here in
-    let closed = closes-row c.close.new.heap new.entries new.nodes new.links (c.args.depth + 1) c.close.result k c.close.ensures.place is in
+    let new = c.closed.ensures.place in
+    let here = sym (ap (place_of new.entries new.nodes new.links) next) ∙ new.edits.here in
+    let closed = closes-row c.closed.new.heap new.entries new.nodes new.links (c.args.depth + 1) c.closed.result k new.closes is in
     let child = same-node c.in-Node.child j (c.in-Node.ensures.place c.args.depth e n ls row ∙ ap (place_of e n ls) c.digit.ensures.read ∙ was) in
     subst (λ i. SharesBeside F G c.args.code left (c.args.depth + 1) i k) child
     (subst (λ m. SharesBeside F G c.args.code m (c.args.depth + 1) c.in-Node.child k) (sym d.is)
     (shares-row F G c.args.code d.m (c.args.depth + 1) c.in-Node.child k old.0 old.1 old.2 new.entries new.nodes new.links old.3 closed
-    (λ q low other. c.edited.ensures.others (c.args.depth + 1) old.0 old.1 old.2 (row-kept cmp code F M first c.in-Node.child (c.args.depth + 1) old.0 old.1 old.2 old.3) q low (λ same. other (same ∙ next)))
+    (λ q low other. new.edits.others (c.args.depth + 1) old.0 old.1 old.2 (row-kept cmp code F M first c.in-Node.child (c.args.depth + 1) old.0 old.1 old.2 old.3) q low (λ same. other (same ∙ next)))
     (λ i m at there. shares-kept F F M G (record { kept = λ l f is. is }) later c.args.code d.m (c.args.depth + 1 + 1) i m (c.place_without-left.ensures.shares P d.m old.0 old.1 old.2 i m d.below old.3 at (sym here ∙ there)))))

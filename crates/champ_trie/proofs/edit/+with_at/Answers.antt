@@ -7,7 +7,6 @@ use Rattle.elem_core.specs.declared.codes.TheConstants.{CODE_BITS}
 use Rattle.elem_core.proofs.CodeLemmas.{masked-small}
 use Rattle.champ_chain.specs.Entry.{Entry}
 use Rattle.champ_chain.proofs.WithLemmas.{key-some}
-use Rattle.node_heap.proofs.Frames.{Extends-trans}
 use Rattle.champ_chain.specs.Entry.{entry, put}
 use Rattle.champ_chain.specs.Chain.{IsChain}
 use Rattle.champ_chain.proofs.CopyLemmas.{held-one}
@@ -18,7 +17,6 @@ use Rattle.champ_trie.specs.Reach.{alike_in}
 use Rattle.champ_trie.specs.Edit.{IsBelow, SharesBeside}
 use Rattle.champ_trie.proofs.ShareLemmas.{shares-kept, shares-none, shares-row, row-at}
 use Rattle.champ_trie.proofs.ReachLemmas.{trie-row}
-use Rattle.champ_trie.proofs.PlaceLemmas.{sets-short}
 use Rattle.champ_trie.proofs.PartLemmas.{row-kept, trie-kept, below-part, part-alike}
 use Rattle.champ_trie.proofs.LeftLemmas.{place-links}
 use Rattle.champ_trie.proofs.WithLemmas.{IsPlaced, placed-first, placed-beside, placed-below, alone, below-more, below-chain, chain-trie, with-trie}
@@ -150,48 +148,42 @@ edited-requires-clause-few g t c =
     let did = grown g t (goal.at.edited-requires-clause-few g t c).Joined-place_at in
     omega (arith, did.3.total, place-links c.match-place_at.place, c.requires.few)
 
-pub make-requires-clause-spare : goal.make-requires-clause-spare
-make-requires-clause-spare g t c =
-    let did = grown g t (goal.at.make-requires-clause-spare g t c).Joined-place_at in
-    omega (arith, Builds-spare_nodes did.3, did.1, c.requires.trie.3, Builds-spare_nodes c.edited.ensures.builds)
+pub edited-requires-clause-spare : goal.edited-requires-clause-spare
+edited-requires-clause-spare g t c =
+    let did = grown g t (goal.at.edited-requires-clause-spare g t c).Joined-place_at in
+    omega (arith, Builds-spare_nodes did.3, did.1, c.requires.trie.3)
 
-pub make-requires-clause-held : goal.make-requires-clause-held
-make-requires-clause-held g t c = λ k.
-    let did = grown g t (goal.at.make-requires-clause-held g t c).Joined-place_at in
-    omega (arith, did.3.holds k, held-one c.args.heap.now c.args.entry k c.requires.held, c.edited.ensures.builds.holds k)
-
-pub make-requires-clause-few : goal.make-requires-clause-few
-make-requires-clause-few g t c =
-    let did = grown g t (goal.at.make-requires-clause-few g t c).Joined-place_at in
-    let few = sets-short c.edited.new.row.entries c.edited.new.row.nodes c.edited.new.row.links c.edited.ensures.sets in
-    omega (arith, did.3.total, c.edited.ensures.builds.total, few, c.requires.few)
+pub edited-requires-clause-held : goal.edited-requires-clause-held
+edited-requires-clause-held g t c = λ k.
+    let did = grown g t (goal.at.edited-requires-clause-held g t c).Joined-place_at in
+    omega (arith, did.3.holds k, held-one c.args.heap.now c.args.entry k c.requires.held)
 
 pub returns-clause-builds : goal.returns-clause-builds
 returns-clause-builds g t c = λ E left below.
     let code = code_by g.T.Element.code_of c.args.bits in
     let more = below-more g.T.Ord.cmp code (form_at c.args.heap.now) c.args.depth c.args.link c.args.code left E below c.if-depth-gt-DEEPEST.false in
     let first = (placed g t (goal.at.returns-clause-builds g t c).Joined-place_at).builds E more.0 more.2 in
-    Builds-more 0 (left + 1 + alike_in code c.args.code E) (Builds-then first (Builds-then c.edited.ensures.builds c.make.ensures.builds)) (omega arith) (omega (arith, more.1))
+    Builds-more 0 (left + 1 + alike_in code c.args.code E) (Builds-then first c.edited.ensures.builds) (omega arith) (omega (arith, more.1))
 
 pub returns-clause-trie : goal.returns-clause-trie
 returns-clause-trie g t c = λ E left k below keyed.
     let code = code_by g.T.Element.code_of c.args.bits in
     let F = form_at c.args.heap.now in
     let M = form_at c.match-place_at.heap in
-    let G = form_at c.make.new.heap in
+    let G = form_at c.edited.new.heap in
     let more = below-more g.T.Ord.cmp code F c.args.depth c.args.link c.args.code left E below c.if-depth-gt-DEEPEST.false in
     let at = placed g t (goal.at.returns-clause-trie g t c).Joined-place_at in
     let first = at.builds E more.0 more.2 in
     let trie = trie-kept g.T.Ord.cmp code F M (forms-kept c.args.heap.now c.match-place_at.heap first.extends) (suc more.0) c.args.depth c.args.link E more.2.trie in
-    let keeps = forms-kept c.match-place_at.heap c.make.new.heap (Extends-trans c.edited.ensures.builds.extends c.make.ensures.builds.extends) in
+    let keeps = forms-kept c.match-place_at.heap c.edited.new.heap c.edited.ensures.builds.extends in
     let given = same-key F c.args.entry c.args.entry c.requires.key.0 k refl c.requires.key.1 keyed in
     let read = c.digit-position.ensures.read in
-    let row = c.edited.new.row in
-    let here = sym (ap (place_of row.entries row.nodes row.links) read) ∙ c.edited.ensures.here in
-    subst (λ n. IsTrie g.T.Ord.cmp code G n c.args.depth c.make.result (put g.T.Ord.cmp E (entry k c.args.entry))) (sym more.1)
-    (with-trie g.T.Ord.cmp code M G keeps more.0 c.args.depth c.args.link c.args.code c.make.result row.entries row.nodes row.links E k c.args.entry c.match-place_at.place trie
-    (λ i j e. ap (λ n. masked_code n c.args.bits) (g.met.T.Element.equal_codes i j e)) (c.requires.key.2 ∙ ap code given) c.make.ensures.row here
-    (λ d e n ls was q low other. c.edited.ensures.others d e n ls was q low (λ same. other (same ∙ read))) (at.stands E more.0 k more.2 keyed))
+    let row = c.edited.ensures.row in
+    let here = sym (ap (place_of row.entries row.nodes row.links) read) ∙ row.edits.here in
+    subst (λ n. IsTrie g.T.Ord.cmp code G n c.args.depth c.edited.result (put g.T.Ord.cmp E (entry k c.args.entry))) (sym more.1)
+    (with-trie g.T.Ord.cmp code M G keeps more.0 c.args.depth c.args.link c.args.code c.edited.result row.entries row.nodes row.links E k c.args.entry c.match-place_at.place trie
+    (λ i j e. ap (λ n. masked_code n c.args.bits) (g.met.T.Element.equal_codes i j e)) (c.requires.key.2 ∙ ap code given) row.row here
+    (λ d e n ls was q low other. row.edits.others d e n ls was q low (λ same. other (same ∙ read))) (at.stands E more.0 k more.2 keyed))
 
 pub returns-then-depth-gt-DEEPEST-clause-shares : goal.returns-then-depth-gt-DEEPEST-clause-shares
 returns-then-depth-gt-DEEPEST-clause-shares g t c = λ E left below.
@@ -203,16 +195,16 @@ returns-clause-shares g t c = λ E left below.
     let code = code_by g.T.Element.code_of c.args.bits in
     let F = form_at c.args.heap.now in
     let M = form_at c.match-place_at.heap in
-    let G = form_at c.make.new.heap in
+    let G = form_at c.edited.new.heap in
     let more = below-more g.T.Ord.cmp code F c.args.depth c.args.link c.args.code left E below c.if-depth-gt-DEEPEST.false in
     let at = placed g t (goal.at.returns-clause-shares g t c).Joined-place_at in
     let first = forms-kept c.args.heap.now c.match-place_at.heap (at.builds E more.0 more.2).extends in
-    let later = forms-kept c.match-place_at.heap c.make.new.heap (Extends-trans c.edited.ensures.builds.extends c.make.ensures.builds.extends) in
+    let later = forms-kept c.match-place_at.heap c.edited.new.heap c.edited.ensures.builds.extends in
     let old = row-at g.T.Ord.cmp code F more.0 c.args.depth c.args.link E more.2.trie in
     let read = c.digit-position.ensures.read in
-    let row = c.edited.new.row in
-    let here = sym (ap (place_of row.entries row.nodes row.links) read) ∙ c.edited.ensures.here in
-    subst (λ n. SharesBeside F G c.args.code n c.args.depth c.args.link c.make.result) (sym more.1)
-    (shares-row F G c.args.code more.0 c.args.depth c.args.link c.make.result old.0 old.1 old.2 row.entries row.nodes row.links old.3 c.make.ensures.row
-    (λ q low other. c.edited.ensures.others c.args.depth old.0 old.1 old.2 (row-kept g.T.Ord.cmp code F M first c.args.link c.args.depth old.0 old.1 old.2 old.3) q low (λ same. other (same ∙ read)))
+    let row = c.edited.ensures.row in
+    let here = sym (ap (place_of row.entries row.nodes row.links) read) ∙ row.edits.here in
+    subst (λ n. SharesBeside F G c.args.code n c.args.depth c.args.link c.edited.result) (sym more.1)
+    (shares-row F G c.args.code more.0 c.args.depth c.args.link c.edited.result old.0 old.1 old.2 row.entries row.nodes row.links old.3 row.row
+    (λ q low other. row.edits.others c.args.depth old.0 old.1 old.2 (row-kept g.T.Ord.cmp code F M first c.args.link c.args.depth old.0 old.1 old.2 old.3) q low (λ same. other (same ∙ read)))
     (λ j k was is. shares-kept F F M G (record { kept = λ l f is. is }) later c.args.code more.0 (c.args.depth + 1) j k (at.shares E more.0 old.0 old.1 old.2 j k more.2 old.3 was (sym here ∙ is))))

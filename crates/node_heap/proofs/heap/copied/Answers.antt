@@ -15,7 +15,7 @@ returns g c =
     let slots = c.args.table.now.slots in
     let put = c.put_node.ensures in
     let same : Some (node c.copy_node-head.result c.as_slice-links.result.now) ≡ graph_of slots c.args.place = rw c.as_slice-links.ensures.value (sym c.copy_node-head.ensures) in
-    let adds : AddsOwners slots c.add_owners.new.table.slots (links_of (graph_of slots c.args.place)) =
+    let adds : AddsOwners slots c.add_owners.new.self.slots (links_of (graph_of slots c.args.place)) =
     record { owners = rw (← ap links_of same) c.add_owners.ensures.owners; rows = c.add_owners.ensures.rows } in
     let joins = joins-copied slots _ _ c.args.place _ _ c.requires.counted adds put.puts same in
     record {

@@ -7,7 +7,7 @@ pub returns-clause-one : goal.returns-clause-one
 returns-clause-one g c =
     let G = row_at c.args.heap.now in
     let forms = form_at c.args.heap.now in
-    let graph = c.is_graph.ensures in
+    let graph = c.rows_form_a_graph.ensures in
     let rank = graph.rank in
     let unfolds = IsTree-unfold forms rank (LeadsDown-forms G rank graph.falls) (closed-forms G graph.closed) (suc (rank c.args.link)) c.args.link (omega arith) (form-live (G c.args.link) c.requires) in
     record {

@@ -11,7 +11,7 @@ use Rattle.pool_order.proofs.walk.order.Goals as goal
 
 pub loop-root-preserved : goal.loop-root-preserved
 loop-root-preserved g c =
-    let ground = grounded c.args.heap.now c.is_graph.ensures in
+    let ground = grounded c.args.heap.now c.rows_form_a_graph.ensures in
     let low : c.loop-root.root-index < length c.args.roots.now = omega arith in
     let live = c.requires.live c.root-item.result (subst (λ r. 0 < count r c.args.roots.now) (sym (item_is c.args.roots.now c.loop-root.root-index c.root-item.result low c.root-item.is)) (count-get_or c.args.roots.now c.loop-root.root-index low)) in (
       firsts-more _ c.loop-root.seen.keys _ c.loop-root.root-index c.root-item.result c.args.roots.now c.loop-root.invariant.0 low c.root-item.is c.in_ok-walk.ensures,
@@ -25,6 +25,6 @@ returns-clause-value g c = c.loop-root.invariant.0 ∙ ap (λ xs. firsts (flat_m
 pub returns-clause-is_order : goal.returns-clause-is_order
 unfolding order
 returns-clause-is_order g c =
-    let ground = grounded c.args.heap.now c.is_graph.ensures in
+    let ground = grounded c.args.heap.now c.rows_form_a_graph.ensures in
     subst (IsOrder (links_at c.args.heap.now) c.args.roots.now) (sym (c.loop-root.invariant.0 ∙ ap (λ xs. firsts (flat_map (places (length c.args.heap.now.rows) (links_at c.args.heap.now)) xs)) (take_all c.args.roots.now c.loop-root.root-index (omega arith))))
     (order-is ground.rank _ ground.falls (length c.args.heap.now.rows) c.args.roots.now (λ r root. ground.low r (c.requires.live r root)))

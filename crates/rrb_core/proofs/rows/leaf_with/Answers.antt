@@ -1,21 +1,22 @@
-use Rattle.std.proofs.Common.{◌∙◌}
-use Rattle.node_heap.proofs.BuildLemmas.{Builds-then}
-use Rattle.rrb_core.proofs.BuildLemmas.{builds-held}
+use Rattle.std.proofs.Common.{ap, arith}
+use Rattle.node_heap.specs.Heap.{links_at}
+use Rattle.node_heap.specs.Forms.{links_of}
+use Rattle.rrb_core.specs.Edit.{links_with}
+use Rattle.rrb_core.proofs.RowLists.{leaf-made}
 use Rattle.rrb_core.proofs.Stays.{well-live}
+use Rattle.rrb_core.proofs.EditLemmas.{around-length}
 use Rattle.rrb_core.proofs.rows.leaf_with.Goals as goal
 
-pub write_links_with-count-requires-clause-live : goal.write_links_with-count-requires-clause-live
-write_links_with-count-requires-clause-live g c = well-live c.args.heap.now 0 c.args.link c.requires.row.well
-
-pub leaf_over-requires-clause-held : goal.leaf_over-requires-clause-held
-leaf_over-requires-clause-held g c = builds-held c.args.element c.requires.held c.write_links_with-count.ensures.builds
+pub node_with-requires-clause-live : goal.node_with-requires-clause-live
+node_with-requires-clause-live g c = well-live c.args.heap.now 0 c.args.link c.requires.row.well
 
 pub returns-clause-edits : goal.returns-clause-edits
 returns-clause-edits g c =
+    let ks = links_at c.args.heap.now c.args.link in
     record {
-      row = rw c.write_links_with-count.ensures.links at c.leaf_over.ensures.row;
-      builds = Builds-then c.write_links_with-count.ensures.builds c.leaf_over.ensures.builds;
+      row = leaf-made c.node_with.new.heap c.node_with.result (links_with ks c.args.keep c.args.element c.args.skip) c.node_with.ensures.row (omega (arith, around-length ks c.args.keep c.args.skip c.args.element c.requires.keep, c.requires.few));
+      builds = c.node_with.ensures.builds;
     }
 
 pub returns-clause-links : goal.returns-clause-links
-returns-clause-links g c = c.leaf_over.ensures.links ∙ c.write_links_with-count.ensures.links
+returns-clause-links g c = ap links_of c.node_with.ensures.row

@@ -24,7 +24,7 @@ add_owners-requires-clause-room g c l =
     omega (arith, owners_at-slots slots stored.counted l, stored.few_holds, places_at-le slots stored.counted.short l, le-sum (holds_in slots) l, stored.few, c.requires.few)
 
 -- each of the links has an owner more for each of its places
-adds : (g : Over) (c : goal.After-add_owners g) → AddsOwners c.self.inside.table.slots c.add_owners.new.table.slots c.args.links.now
+adds : (g : Over) (c : goal.After-add_owners g) → AddsOwners c.self.inside.table.slots c.add_owners.new.self.slots c.args.links.now
 adds g c = record { owners = c.add_owners.ensures.owners; rows = c.add_owners.ensures.rows }
 
 pub invariant_of-self : goal.invariant_of-self
@@ -43,7 +43,7 @@ invariant_of-self g c =
 pub returns : goal.returns
 returns g c =
     let i = c.self.inside in
-    let new = c.add_owners.new.table in
+    let new = c.add_owners.new.self in
     let stored = c.self.invariant in
     let room = c.add_owners.ensures.room in
     let same = c.add_owners.ensures.rows in

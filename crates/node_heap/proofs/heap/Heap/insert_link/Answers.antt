@@ -3,6 +3,7 @@ use Rattle.node_heap.specs.Forms.{head_of}
 use Rattle.node_heap.specs.Heap.{row_at, links_at}
 use Rattle.node_heap.proofs.Rewritten.{Moves, Moves-insert, IsHeap-moved, WritesNode-moved}
 use Rattle.node_heap.proofs.heap.Heap.insert_link.Given.{Over}
+use Rattle.node_heap.proofs.Owned.{owners-room}
 use Rattle.node_heap.proofs.heap.Heap.insert_link.Goals as goal
 
 -- the node has the new link besides
@@ -16,3 +17,6 @@ invariant_of-self g c = IsHeap-moved c.insert_link.ensures.room c.self.invariant
 
 pub returns : goal.returns
 returns g c = assumption (WritesNode-moved c.insert_link.ensures.room c.self.invariant c.self.view_is c.parent.view_is (invariant_of-self g c) (moves g c))
+
+pub insert_link-requires-clause-room : goal.insert_link-requires-clause-room
+insert_link-requires-clause-room g c l = omega (arith, owners-room c.self.invariant l)

@@ -1,50 +1,81 @@
-use Rattle.std.proofs.Common.{◌≡◌, ◌-◌, [], refl, sym, ◌∙◌, arith}
+use Rattle.std.proofs.Common.{◌≡◌, ◌-◌, [], length, get_or, refl, ap, sym, subst, ◌∙◌, arith}
+use Rattle.node_heap.specs.Forms.{links_of}
+use Rattle.node_heap.specs.Layout.{owners_in, slot_at, graph_of, SetsOwners}
+use Rattle.node_heap.proofs.Dropped.{room-copied, drop-child}
 use Rattle.node_heap.specs.InPlace.{child_at}
-use Rattle.node_heap.proofs.Stored.{IsGraph-stored, owners-seen}
+use Rattle.node_heap.proofs.Stored.{IsGraph-stored, row-seen, owners-seen}
 use Rattle.node_heap.proofs.BuildLemmas.{Builds-refl}
+use Rattle.node_heap.proofs.Edited.{count-at}
 use Rattle.node_heap.proofs.EditLaws.{Changes-Builds}
 use Rattle.node_heap.proofs.Rewritten.{child-read}
 use Rattle.node_heap.proofs.Owned.{OwnsChild, OwnsChild-seen, OwnsCopy-child, owners-room, inside-copied, counted-child, total-child}
+use Rattle.node_heap.proofs.PairLemmas.{is-one, not-one}
 use Rattle.node_heap.proofs.heap.Heap.own_child.Given.{Over}
 use Rattle.node_heap.proofs.heap.Heap.own_child.Goals as goal
-use Rattle.node_heap.proofs.heap.Heap.own_child.Goals.{After-owners-owners}
+use Rattle.node_heap.proofs.heap.Heap.own_child.Goals.{After-is_alone_below}
 
 -- the child that was read stands at the index
-child_is : (g : Over) (c : After-owners-owners g) → c.child.inside.place ≡ child_at c.args.self.now c.args.parent c.args.index
+child_is : (g : Over) (c : After-is_alone_below g) → c.child.inside.place ≡ child_at c.args.self.now c.args.parent c.args.index
 child_is g c = child-read c.self.invariant.counted c.self.view_is c.parent.view_is _ _ _ _ c.links.ensures c.child.view_is c.index-links-index.is c.requires.index
 
-pub returns-then-owners-eq1-clause-same : goal.returns-then-owners-eq1-clause-same
-returns-then-owners-eq1-clause-same g c =
-    let one = sym (owners-seen c.self.invariant.counted c.self.view_is refl) ∙ sym c.owners-owners.ensures ∙ c.if-owners-eq1.true in
-    rw (← child_is g (goal.at.returns-then-owners-eq1-clause-same g c).After-owners-owners) (λ _. one, λ _. sym c.child.view_is)
+pub returns-then-is_alone_below-clause-same : goal.returns-then-is_alone_below-clause-same
+returns-then-is_alone_below-clause-same g c =
+    let one = sym (owners-seen c.self.invariant.counted c.self.view_is refl) ∙ is-one c.is_alone_below.result _ c.is_alone_below.ensures c.if-is_alone_below.true in
+    rw (← child_is g (goal.at.returns-then-is_alone_below-clause-same g c).After-is_alone_below) (λ _. one, λ _. sym c.child.view_is)
 
-pub returns-then-owners-eq1-clause-sole : goal.returns-then-owners-eq1-clause-sole
-returns-then-owners-eq1-clause-sole g c = sym (owners-seen c.self.invariant.counted c.self.view_is c.child.view_is) ∙ sym c.owners-owners.ensures ∙ c.if-owners-eq1.true
+pub returns-then-is_alone_below-clause-sole : goal.returns-then-is_alone_below-clause-sole
+returns-then-is_alone_below-clause-sole g c = sym (owners-seen c.self.invariant.counted c.self.view_is c.child.view_is) ∙ is-one c.is_alone_below.result _ c.is_alone_below.ensures c.if-is_alone_below.true
 
-pub returns-then-owners-eq1-clause-changes : goal.returns-then-owners-eq1-clause-changes
-returns-then-owners-eq1-clause-changes g c =
+pub returns-then-is_alone_below-clause-changes : goal.returns-then-is_alone_below-clause-changes
+returns-then-is_alone_below-clause-changes g c =
     let graph = rw c.self.view_is at (IsGraph-stored _ _ _ _ c.self.invariant) in
     Changes-Builds c.args.parent graph (λ k up one. one) (Builds-refl c.args.self.now [] 0 1 graph)
 
 pub copied-place-requires-clause-room : goal.copied-place-requires-clause-room
 copied-place-requires-clause-room g c = owners-room c.self.invariant
 
-pub replace_link-requires : goal.replace_link-requires
-replace_link-requires g c = inside-copied c.self.invariant.counted c.self.view_is c.parent.view_is c.copied-place.ensures.copies c.requires.sole c.requires.index
+pub is_alone_below-requires-clause-room : goal.is_alone_below-requires-clause-room
+is_alone_below-requires-clause-room g c = omega (arith, owners-room c.self.invariant c.child.inside.place)
+
+pub is_alone_below-requires-clause-counted : goal.is_alone_below-requires-clause-counted
+is_alone_below-requires-clause-counted g c = c.self.invariant.counted.places c.child.inside.place
+
+pub is_alone_below-requires-clause-linked : goal.is_alone_below-requires-clause-linked
+is_alone_below-requires-clause-linked g c =
+    let counted = c.self.invariant.counted in
+    let links = links_of (graph_of c.self.inside.table.slots c.parent.inside.place) in
+    let row = row-seen counted c.self.view_is c.parent.view_is in
+    let at = child-read counted c.self.view_is c.parent.view_is _ _ _ _ c.links.ensures c.child.view_is c.index-links-index.is c.requires.index ∙ ap (λ r. get_or (links_of r) c.args.index 0) row in
+    omega (arith, count-at links c.args.index c.child.inside.place (omega (arith, c.requires.index, ap (λ r. length (links_of r)) row)) (sym at))
+
+pub replace_link-requires-clause-room : goal.replace_link-requires-clause-room
+replace_link-requires-clause-room g c = room-copied c.self.invariant c.copied-place.ensures.copies
+
+pub replace_link-requires-clause-index : goal.replace_link-requires-clause-index
+replace_link-requires-clause-index g c = inside-copied c.self.invariant.counted c.self.view_is c.parent.view_is c.copied-place.ensures.copies c.requires.sole c.requires.index
+
+-- the child has an owner that is no place then
+pub drop_owner-requires-clause-more : goal.drop_owner-requires-clause-more
+drop_owner-requires-clause-more g c = (drop-child c.self.invariant.counted c.self.view_is c.parent.view_is c.copied-place.ensures.copies c.replace_link.ensures.rewrites c.requires.index (child_is g (goal.at.drop_owner-requires-clause-more g c).After-is_alone_below)).0
+
+pub drop_owner-requires-clause-live : goal.drop_owner-requires-clause-live
+drop_owner-requires-clause-live g c = (drop-child c.self.invariant.counted c.self.view_is c.parent.view_is c.copied-place.ensures.copies c.replace_link.ensures.rewrites c.requires.index (child_is g (goal.at.drop_owner-requires-clause-live g c).After-is_alone_below)).2
 
 -- the copy stands in the child's place, and the child has an owner less
-owns : (g : Over) (c : goal.After-set_owners g) → OwnsChild c.self.inside.table.slots c.copied-place.new.table.slots c.replace_link.new.self.slots c.set_owners.new.self.slots c.parent.inside.place c.args.index c.child.inside.place c.copied-place.result (c.owners-owners.result - 1)
+owns : (g : Over) (c : goal.After-drop_owner g) → OwnsChild c.self.inside.table.slots c.copied-place.new.table.slots c.replace_link.new.self.slots c.drop_owner.new.self.slots c.parent.inside.place c.args.index c.child.inside.place c.copied-place.result (owners_in (slot_at c.self.inside.table.slots c.child.inside.place) - 1)
 owns g c =
     let copied = c.copied-place.ensures in
-    let done = c.set_owners.ensures in
-    OwnsChild-seen c.self.invariant.counted c.self.view_is c.parent.view_is copied.copies copied.counted c.replace_link.ensures.rewrites done.sets done.rows c.owners-owners.ensures c.if-owners-eq1.false c.requires.sole c.requires.index (child_is g (goal.at.returns g c).After-owners-owners)
+    let done = c.drop_owner.ensures in
+    let number : owners_in (slot_at c.replace_link.new.self.slots c.child.inside.place) ≡ owners_in (slot_at c.self.inside.table.slots c.child.inside.place) = (drop-child c.self.invariant.counted c.self.view_is c.parent.view_is c.copied-place.ensures.copies c.replace_link.ensures.rewrites c.requires.index (child_is g (goal.at.returns g c).After-is_alone_below)).1 in
+    let sets = subst (λ n. SetsOwners c.replace_link.new.self.slots c.drop_owner.new.self.slots c.child.inside.place (n - 1)) number done.sets in
+    OwnsChild-seen c.self.invariant.counted c.self.view_is c.parent.view_is copied.copies copied.counted c.replace_link.ensures.rewrites sets done.rows refl (not-one c.is_alone_below.result _ c.is_alone_below.ensures c.if-is_alone_below.false) c.requires.sole c.requires.index (child_is g (goal.at.returns g c).After-is_alone_below)
 
 pub invariant_of-self : goal.invariant_of-self
 invariant_of-self g c =
     let stored = c.self.invariant in
     let copied = c.copied-place.ensures in
     let wrote = c.replace_link.ensures.room in
-    let done = c.set_owners.ensures.room in
+    let done = c.drop_owner.ensures.room in
     record {
       counted = counted-child stored.counted (owns g c);
       few = omega (arith, copied.spare_cells, copied.spare_nodes, copied.len, wrote.len, wrote.spare_cells, wrote.spare_nodes, done.len, done.spare_cells, done.spare_nodes, stored.few);
@@ -56,7 +87,7 @@ pub returns : goal.returns
 returns g c =
     let copied = c.copied-place.ensures in
     let wrote = c.replace_link.ensures.room in
-    let done = c.set_owners.ensures.room in
-    rw (← child_is g (goal.at.returns g c).After-owners-owners)
+    let done = c.drop_owner.ensures.room in
+    rw (← child_is g (goal.at.returns g c).After-is_alone_below)
     (assumption (OwnsCopy-child c.self.invariant c.self.view_is c.parent.view_is (invariant_of-self g c) (owns g c) copied.cells copied.nodes (done.spare_cells ∙ wrote.spare_cells ∙ copied.spare_cells)
     (omega (arith, done.spare_nodes, wrote.spare_nodes, copied.spare_nodes)) c.saturating_add-self-inside.ensures))

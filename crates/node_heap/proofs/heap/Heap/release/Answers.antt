@@ -53,8 +53,8 @@ returns-clause-releases g c =
     let freed = c.free_waiting.ensures in
     let start = IsDying-start slots place c.self.invariant.counted (omega (arith, held_at slots _ refl place, held)) in
     let end = freed.freed (holds_after slots place) (dropped.dropped (holds_after slots place) start) in
-    let cells : cells_in c.drop_places-first.new.table.slots ≡ cells_in slots = ap (λ xs. sum_by is_cell xs) dropped.rows in
-    let nodes : nodes_in c.drop_places-first.new.table.slots ≡ nodes_in slots = ap (λ xs. sum_by is_node xs) dropped.rows in
+    let cells : cells_in c.drop_places-first.new.self.slots ≡ cells_in slots = ap (λ xs. sum_by is_cell xs) dropped.rows in
+    let nodes : nodes_in c.drop_places-first.new.self.slots ≡ nodes_in slots = ap (λ xs. sum_by is_node xs) dropped.rows in
     rw (← c.self.view_is)
     (Releases-slots slots _ place _ _ _ _ _ (returns-clause-graph g c) (holds-freed slots _ place _ _ refl refl held end)
     (rows-thinned slots _ _ dropped.rows freed.rows) (omega (arith, cells, freed.cells, dropped.room.spare_cells)) (omega (arith, nodes, freed.nodes, dropped.room.spare_nodes)) (omega (arith, cells, freed.cells, freed.more_cells, dropped.room.spare_cells)) (omega (arith, nodes, freed.nodes, freed.more_nodes, dropped.room.spare_nodes)))

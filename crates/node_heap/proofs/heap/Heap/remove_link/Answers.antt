@@ -4,6 +4,7 @@ use Rattle.node_heap.specs.Heap.{row_at, links_at, hold_count}
 use Rattle.node_heap.specs.InPlace.{child_at}
 use Rattle.node_heap.proofs.Rewritten.{Moves, child-seen, Moves-remove, IsHeap-moved, WritesNode-moved}
 use Rattle.node_heap.proofs.heap.Heap.remove_link.Given.{Over}
+use Rattle.node_heap.proofs.Owned.{owners-room}
 use Rattle.node_heap.proofs.heap.Heap.remove_link.Goals as goal
 
 -- the answer is the child that stood there
@@ -19,3 +20,6 @@ invariant_of-self g c = IsHeap-moved c.remove_link.ensures.room c.self.invariant
 
 pub returns : goal.returns
 returns g c = assumption (old g c, WritesNode-moved c.remove_link.ensures.room c.self.invariant c.self.view_is c.parent.view_is (invariant_of-self g c) (moves g c))
+
+pub remove_link-requires-clause-room : goal.remove_link-requires-clause-room
+remove_link-requires-clause-room g c l = omega (arith, owners-room c.self.invariant l)

@@ -4,6 +4,7 @@ use Rattle.node_heap.specs.Heap.{row_at, links_at}
 use Rattle.node_heap.specs.InPlace.{child_at}
 use Rattle.node_heap.proofs.Rewritten.{Moves, child-seen, Moves-replace, IsHeap-moved, WritesNode-moved}
 use Rattle.node_heap.proofs.heap.Heap.replace.Given.{Over}
+use Rattle.node_heap.proofs.Owned.{owners-room}
 use Rattle.node_heap.proofs.heap.Heap.replace.Goals as goal
 
 -- the answer is the child that stood there
@@ -21,3 +22,6 @@ invariant_of-self g c = IsHeap-moved c.replace_link.ensures.room c.self.invarian
 
 pub returns : goal.returns
 returns g c = assumption (old g c, WritesNode-moved c.replace_link.ensures.room c.self.invariant c.self.view_is c.parent.view_is (invariant_of-self g c) (moves g c))
+
+pub replace_link-requires-clause-room : goal.replace_link-requires-clause-room
+replace_link-requires-clause-room g c l = omega (arith, owners-room c.self.invariant l)

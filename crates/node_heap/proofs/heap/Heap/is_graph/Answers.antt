@@ -1,5 +1,0 @@
-use Rattle.node_heap.proofs.Stored.{IsGraph-stored}
-use Rattle.node_heap.proofs.heap.Heap.is_graph.Goals as goal
-
-pub returns : goal.returns
-returns g c = rw (← c.self.view_is) (IsGraph-stored _ _ _ _ c.self.invariant)
