@@ -56,7 +56,7 @@ pub fn pop_held<T: Drop>(heap: &mut Heap<T>, vector: Flex) -> (Flex, Link)
     ensures pops { PopsElement (by_hold vector) heap.old heap.new result.0 result.1 }
     ensures spares { KeepsToNeed heap.old heap.new 0 0 }
 {
-    heap.is_graph();
+    heap.rows_form_a_graph();
     let root = vector.into_root();
     let height = height_of(heap, root);
     if leaves_child(heap, root, height) {

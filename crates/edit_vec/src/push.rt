@@ -83,7 +83,7 @@ pub fn push_held<T>(heap: &mut Heap<T>, vector: Flex, element: Link) -> Flex
     ensures pushes { PushesElement (by_hold vector) heap.old heap.new result element }
     ensures spares { KeepsToNeed heap.old heap.new 0 0 }
 {
-    heap.is_graph();
+    heap.rows_form_a_graph();
     let root = push_root(heap, vector.into_root(), element);
     Flex::from_root(root)
 }

@@ -49,7 +49,7 @@ pub fn load_roots<T: Stored>(
     ensures spares { OnOk result (KeepsToNeed heap.old heap.new (cells_of checked.rows) (nodes_of checked.rows)) }
     ensures refused { OnErr result (heap.new ≡ heap.old) }
 {
-    heap.is_graph();
+    heap.rows_form_a_graph();
     let pool = checked.pool();
     let rows = pool.rows.as_slice();
     let places = pool.roots.as_slice();

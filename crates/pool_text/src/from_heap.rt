@@ -1,8 +1,9 @@
 //! The pool of a heap's rows.
 ghost use Rattle.std.specs.Prelude.{◌≡◌, ℕ, ◌<◌, map, option_map, true, IfOk, Some};
 ghost use Rattle.node_heap.specs.Links.{count, Reaches};
-ghost use Rattle.node_heap.specs.Forms.{cell, node, kind_of};
+ghost use Rattle.node_heap.specs.Forms.{cell, node};
 ghost use Rattle.node_heap.specs.Heap.{form_at, links_at};
+ghost use Rattle.node_heap.specs.Reads.{kind_said};
 ghost use Rattle.pool_order.specs.Order.{order_of};
 ghost use Rattle.pool_text.specs.Rows.{Bytes, row_form};
 ghost use Rattle.pool_text.specs.Pool.{place_in, relink, settings_by, fits_pool, text_forms, pool_at};
@@ -11,7 +12,7 @@ use crate::pool::{Pool, Rows};
 use crate::row::{Places, PoolText, Row};
 use crate::rules::PRESENT_VERSION;
 use elem_core::{NoMemory, Stored};
-use node_heap::{Head, Heap, Link};
+use node_heap::{Heap, Kind, Link};
 use pool_order::Order;
 use std::alloc::Global;
 
@@ -29,7 +30,7 @@ pub fn pool_of<T: Stored>(
     requires fits { (r l : ℕ) → 0 < count r roots.now → Reaches (links_at heap.now) r l → fits_pool (form_at heap.now l) ≡ true }
     ensures value { IfOk result (λ p. p ≡ pool_at T.bytes_of heap.now roots.now (settings_by bits history)) }
 {
-    heap.is_graph();
+    heap.rows_form_a_graph();
     let mut rows = Vec::with_capacity(alloc, order.len())?;
     for place in 0..order.len() {
         match order.at(place) {
@@ -57,8 +58,8 @@ fn row_of<T: Stored>(
     requires listed { (k : ℕ) → 0 < count k (links_at heap.now link) → 0 < count k order.now }
     ensures { IfOk result (λ r. option_map (relink (place_in order.now)) (text_forms T.bytes_of heap.now link) ≡ Some (row_form r)) }
 {
-    match heap.head(link) {
-        Some(head) => node_row(alloc, order, head, heap.links(link)),
+    match heap.kind(link) {
+        Some(kind) => node_row(alloc, order, kind, heap.links(link)),
         None => match heap.value(link) {
             Some(value) => cell_row(alloc, value),
             None => unreachable!(),
@@ -73,28 +74,28 @@ fn cell_row<T: Stored>(alloc: Global, value: &T) -> Result<Row, NoMemory>
     Ok(Row::Cell(PoolText::from_text(text)))
 }
 
-// The row of a node with this head and these links, with places for them.
-fn node_row(alloc: Global, order: &Order, head: &Head, links: &[Link]) -> Result<Row, NoMemory>
-    requires fits { fits_pool {K = Bytes} (Some (node (kind_of head.now) links.now)) ≡ true }
+// The row of a node of this kind with these links, with places for them.
+fn node_row(alloc: Global, order: &Order, kind: Kind, links: &[Link]) -> Result<Row, NoMemory>
+    requires fits { fits_pool {K = Bytes} (Some (node (kind_said kind) links.now)) ≡ true }
     requires listed { (k : ℕ) → 0 < count k links.now → 0 < count k order.now }
-    ensures { IfOk result (λ r. row_form r ≡ node (kind_of head.now) (map (place_in order.now) links.now)) }
+    ensures { IfOk result (λ r. row_form r ≡ node (kind_said kind) (map (place_in order.now) links.now)) }
 {
-    Ok(match head {
-        Head::Leaf => Row::Leaf(places_of(alloc, order, links)?),
-        Head::Inner { height, .. } => Row::Inner(*height, places_of(alloc, order, links)?),
-        Head::Trie {
+    Ok(match kind {
+        Kind::Leaf => Row::Leaf(places_of(alloc, order, links)?),
+        Kind::Inner { height } => Row::Inner(height, places_of(alloc, order, links)?),
+        Kind::Trie {
             depth,
             entries,
             nodes,
         } => Row::Trie {
-            depth: *depth,
-            entries: *entries,
-            nodes: *nodes,
+            depth,
+            entries,
+            nodes,
             links: places_of(alloc, order, links)?,
         },
-        Head::Chain => Row::Chain(places_of(alloc, order, links)?),
-        Head::Pair => Row::Pair(place_of(order, links[0]), place_of(order, links[1])),
-        Head::State => Row::State(place_of(order, links[0]), place_of(order, links[1])),
+        Kind::Chain => Row::Chain(places_of(alloc, order, links)?),
+        Kind::Pair => Row::Pair(place_of(order, links[0]), place_of(order, links[1])),
+        Kind::State => Row::State(place_of(order, links[0]), place_of(order, links[1])),
     })
 }
 

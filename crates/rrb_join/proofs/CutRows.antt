@@ -106,7 +106,7 @@ outer front back a b c s all e f g = g ∙ rw (e, f) refl
 erased : {T : Type 0} (z : Heap T) (rows front back all : List ℕ) (j : ℕ) → HasFront rows front → HasRest z (drop j rows) back → HasSeam z 2 (but_last front) (drop 1 back) all → All (IsWide z) (but_last all)
     → (i : ℕ) × (q : ℕ) × HasSeam z 3 (take i rows) (drop q rows) all
 erased z rows front back all j has left joined wide =
-    let before = front-but-last rows has.place has.cut has.one in
+    let before = front-but-last rows has.place has.last has.one in
     let after = rest-but-first rows left.made j in
     let late : List ℕ = drop 1 left.made in
     let front-is : but_last front ≡ take before.0 rows = ap (λ (xs : List ℕ). but_last xs) has.is ∙ before.1 in
@@ -132,12 +132,12 @@ module _ {T : Type 0} where
       let rows : List ℕ = take has.place (rows_of old m vector) in (
         left.0,
         has.place,
-        drop (left.0 - length rows) has.cut,
-        omega (arith, length-drop (left.0 - length rows) has.cut, has.one),
+        drop (left.0 - length rows) has.last,
+        omega (arith, length-drop (left.0 - length rows) has.last, has.one),
         record {
           seam = left.1.made;
           few = halves-at-need new left.1.made left.1.halves;
-          rows = left.1.rows ∙ ap (λ (xs : List ℕ). left.1.made ++ xs) (ap (λ (xs : List ℕ). drop left.0 xs) has.is ∙ drop-both left.0 rows has.cut);
+          rows = left.1.rows ∙ ap (λ (xs : List ℕ). left.1.made ++ xs) (ap (λ (xs : List ℕ). drop left.0 xs) has.is ∙ drop-both left.0 rows has.last);
         },
       )
 

@@ -181,9 +181,9 @@ fewer-part old mid new vector front v from to good s live short takes leaves low
     let has = front-of-height old mid vector to front takes m in
     let f : ℕ → List ℕ = seq_at (form_at mid) m in
     let rows : List ℕ = rows_of old m vector in
-    let size : length (rows_of mid m front) ≡ has.place + length has.cut = ap length has.is ∙ length-append (take has.place rows) has.cut ∙ ap (λ (x : ℕ). x + length has.cut) (length-take-le has.place rows has.inside) in
+    let size : length (rows_of mid m front) ≡ has.place + length has.last = ap length has.is ∙ length-append (take has.place rows) has.last ∙ ap (λ (x : ℕ). x + length has.last) (length-take-le has.place rows has.inside) in
     let same : (q : ℕ) → q ≤ has.place → elements_before mid front m q ≡ elements_before old vector m q = λ q le.
-    ap (λ (xs : List ℕ). length (flat_map f (take q xs))) has.is ∙ ap (λ (xs : List ℕ). length (flat_map f xs)) (take-append-le q (take has.place rows) has.cut (omega (arith, le, length-take-le has.place rows has.inside)) ∙ take-take q has.place rows le)
+    ap (λ (xs : List ℕ). length (flat_map f (take q xs))) has.is ∙ ap (λ (xs : List ℕ). length (flat_map f xs)) (take-append-le q (take has.place rows) has.last (omega (arith, le, length-take-le has.place rows has.inside)) ∙ take-take q has.place rows le)
     ∙ ap length (items-stay s m (take q rows) (All-take (λ x. IsSome (row_at old x)) q rows (rows-named s (height_at old vector) m vector live))) in
     let q : ℕ = min i (length (rows_of mid m front) - 1) in
     fits mid front good new from v leaves low m i j lt (omega (arith, few, same q (omega (arith, size, has.one)), first-fewer (seq_at (form_at old) m) rows q i (omega arith)))

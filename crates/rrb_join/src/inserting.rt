@@ -14,7 +14,7 @@ use crate::joining::SEAM_NODES;
 use crate::over::{root_over, rows_over};
 use elem_core::NoMemory;
 use node_heap::{Heap, Link, MOST_HEIGHT};
-use rrb_core::{Flex, FlexRef, Gathered, Spot, gathered, height_of, spot_of};
+use rrb_core::{Flex, FlexRef, Gathered, IndexSpot, gathered, height_of, spot_of};
 use thiserror::Error;
 
 /// Why an element was not inserted.
@@ -104,7 +104,7 @@ fn inserted_root<T>(heap: &mut Heap<T>, root: Link, index: u32, element: Link) -
 }
 
 // The child of an inner row into which a new element at `index` goes, and its index there.
-fn spot_before<T>(heap: &Heap<T>, link: Link, below: u8, index: u32) -> Spot
+fn spot_before<T>(heap: &Heap<T>, link: Link, below: u8, index: u32) -> IndexSpot
     requires well { IsWell (form_at heap.now) (suc below) link }
     requires sums { HasSums heap.now (suc below) link }
     requires low { below < MOST_HEIGHT }
@@ -114,13 +114,13 @@ fn spot_before<T>(heap: &Heap<T>, link: Link, below: u8, index: u32) -> Spot
     ensures before { length (flat_map (seq_at (form_at heap.now) below) (take result.place (links_at heap.now link))) + result.within ≡ index }
 {
     if index == 0 {
-        return Spot {
+        return IndexSpot {
             place: 0,
             within: 0,
         };
     }
     let spot = spot_of(heap, link, below, index - 1);
-    Spot {
+    IndexSpot {
         place: spot.place,
         within: spot.within + 1,
     }

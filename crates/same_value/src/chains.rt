@@ -13,20 +13,20 @@ use std::sync::ledger::Ledger;
 
 // What a chain row has: its entry, and the row after it.
 #[derive(Clone, Copy)]
-struct ChainRow {
+struct EntryAndNext {
     entry: Link,
     next: Option<Link>,
 }
 
 // What the chain row at a link has, in one step.
-fn row_of<T, L: Ledger>(glass: &Glass<'_, T>, row: Link, steps: &mut Steps<L>) -> ChainRow
+fn row_of<T, L: Ledger>(glass: &Glass<'_, T>, row: Link, steps: &mut Steps<L>) -> EntryAndNext
     requires { (entry : ℕ) × (next : Option ℕ) × (form_at (lent glass.now) row ≡ Some (node chain (entry ∷ option_to_list next))) }
     ensures row { form_at (lent glass.now) row ≡ Some (node chain (result.entry ∷ option_to_list result.next)) }
     ensures graph { IsGraph (lent glass.now) }
     ensures step { steps.new ≡ steps.old + 1 }
 {
     let links = glass.links(row, steps);
-    ChainRow {
+    EntryAndNext {
         entry: links[0],
         next: links.get(1).copied(),
     }

@@ -12,7 +12,7 @@ ghost use Rattle.same_value.specs.Apart.{Spends};
 use crate::chains::same_chains;
 use crate::compare::{Both, ComparesEntries};
 use elem_core::{DEEPEST, Element};
-use node_heap::{Glass, Head, Link, Steps};
+use node_heap::{Glass, Kind, Link, Steps};
 use std::sync::ledger::Ledger;
 
 // The positions of a trie row: those of its entries, and those of its nodes.
@@ -29,11 +29,8 @@ fn positions_of<T, L: Ledger>(glass: &Glass<'_, T>, link: Link, steps: &mut Step
         (result.entries ≡ entries) × (result.nodes ≡ nodes) }
     ensures step { steps.new ≡ steps.old + 1 }
 {
-    match glass.head(link, steps) {
-        Some(Head::Trie { entries, nodes, .. }) => Positions {
-            entries: *entries,
-            nodes: *nodes,
-        },
+    match glass.kind(link, steps) {
+        Some(Kind::Trie { entries, nodes, .. }) => Positions { entries, nodes },
         _ => unreachable!(),
     }
 }

@@ -46,7 +46,7 @@ module _ (g : Over) (c : After-own-own g) where
   own : Owns c.args.heap.now c.own-own.new.self c.args.vector c.own-own.result
   own =
       let did = c.own-own.ensures in
-      owns c.into_root-root.ensures c.is_graph.ensures c.requires.held did.same did.row did.sole did.fresh did.owners did.builds did.makes
+      owns c.into_root-root.ensures c.rows_form_a_graph.ensures c.requires.held did.same did.row did.sole did.fresh did.owners did.builds did.makes
 
   height : c.height_of-height.result ≡ height_at c.args.heap.now c.args.vector
   height = c.height_of-height.ensures ∙ ap (height_at c.args.heap.now) c.into_root-root.ensures

@@ -9,7 +9,7 @@ push_root-root-requires-clause-root g c =
     let vector : ℕ = c.args.vector in
     let element : ℕ = c.args.element in
     rw c.into_root.ensures (record {
-      graph = c.is_graph.ensures;
+      graph = c.rows_form_a_graph.ensures;
       good = c.requires.good;
       short = c.requires.short;
       held = omega (arith, c.requires.held element, count-cons element vector (element ∷ []), count-cons element element [], test_same element element refl);

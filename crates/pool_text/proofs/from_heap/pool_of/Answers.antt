@@ -12,14 +12,14 @@ pub row_of-requires-clause-fits : goal.row_of-requires-clause-fits
 row_of-requires-clause-fits g c =
     let at = get-some c.args.order.now c.loop-place.place c.in-Some.link (sym c.in-Some.is ∙ c.at.ensures) in
     let some : 0 < count c.in-Some.link c.args.order.now = item_in c.args.order.now c.loop-place.place c.in-Some.link at.0 (sym at.1) in
-    listed-fits c.args.heap.now c.args.roots.now c.is_graph.ensures c.requires.fits c.in-Some.link (subst (λ (ks : List ℕ). 0 < count c.in-Some.link ks) c.requires.order some)
+    listed-fits c.args.heap.now c.args.roots.now c.rows_form_a_graph.ensures c.requires.fits c.in-Some.link (subst (λ (ks : List ℕ). 0 < count c.in-Some.link ks) c.requires.order some)
 
 pub row_of-requires-clause-listed : goal.row_of-requires-clause-listed
 row_of-requires-clause-listed g c =
     let at = get-some c.args.order.now c.loop-place.place c.in-Some.link (sym c.in-Some.is ∙ c.at.ensures) in
     let some : 0 < count c.in-Some.link c.args.order.now = item_in c.args.order.now c.loop-place.place c.in-Some.link at.0 (sym at.1) in
     λ k has. subst (λ (ks : List ℕ). 0 < count k ks) (sym c.requires.order)
-    (listed-links c.args.heap.now c.args.roots.now c.is_graph.ensures c.requires.fits c.in-Some.link k (subst (λ (ks : List ℕ). 0 < count c.in-Some.link ks) c.requires.order some) has)
+    (listed-links c.args.heap.now c.args.roots.now c.rows_form_a_graph.ensures c.requires.fits c.in-Some.link k (subst (λ (ks : List ℕ). 0 < count c.in-Some.link ks) c.requires.order some) has)
 
 pub unreachable-requires : goal.unreachable-requires
 unreachable-requires g c = let past = get-none c.args.order.now c.loop-place.place (sym c.in-None.is ∙ c.at.ensures) in omega arith
@@ -31,7 +31,7 @@ loop-place-preserved g c =
 
 pub places_of-requires : goal.places_of-requires
 places_of-requires g c = record {
-  listed = λ k root. subst (λ (ks : List ℕ). 0 < count k ks) (sym c.requires.order) (listed-roots c.args.heap.now c.args.roots.now c.is_graph.ensures c.requires.fits k root);
+  listed = λ k root. subst (λ (ks : List ℕ). 0 < count k ks) (sym c.requires.order) (listed-roots c.args.heap.now c.args.roots.now c.rows_form_a_graph.ensures c.requires.fits k root);
 }
 
 pub returns : goal.returns

@@ -1,4 +1,4 @@
-use Rattle.std.proofs.Common.{◌≡◌, ℕ, length, set, ap, arith}
+use Rattle.std.proofs.Common.{◌≡◌, length, set, ap, arith}
 use Rattle.pool_text.proofs.ListPlaces.{not-listed, one-more}
 use Rattle.pool_text.proofs.from_rows.Listed.list.Goals as goal
 
