@@ -1,34 +1,165 @@
 -- Chains whose first rows were made one's own, and what is written after them.
-use Rattle.std.proofs.Common.{◌≡◌, ◌≢◌, ℕ, suc, zero, ◌+◌, ◌<◌, ◌≤◌, List, [], ◌∷◌, ◌++◌, length, take, drop, get_or, set, refl, ap, sym, subst, ◌∙◌, arith, Option, Some, None, IsSome, option_map, inl, inr, append_assoc, length-append, length-drop}
+use Rattle.std.proofs.Common.{◌≡◌, ◌≢◌, ℕ, suc, zero, ◌+◌, ◌<◌, List, [], ◌∷◌, ◌++◌, length, refl, ap, sym, subst, ◌∙◌, arith, Option, Some, None, inl, inr, ◌≤◌, take, drop, get_or, set, IsSome, option_map, append_assoc, length-append, length-drop}
 use Rattle.std.specs.Prelude.{option_to_list}
+use Rattle.std.specs.Ordering.{match_ordering}
+use Rattle.std.specs.declared.cmp.Ordering.{Ordering}
 use Rattle.std.specs.List.{slice_get}
+use Rattle.std.proofs.lemmas.Bool.{cases_eq}
 use Rattle.std.proofs.lemmas.List.{get_or-set_same, length-set, set-get_or, take-append-drop}
 use Rattle.std.proofs.lemmas.Option.{slice_get-get_or, get_or_from_slice_get, slice_get_within, slice_get_read}
 use Rattle.node_heap.specs.Links.{count, HasLink, Reaches, here, below}
-use Rattle.node_heap.specs.Forms.{Forms, Form, cell, node, chain, links_of, links_in, head_of, value_of, form_of}
+use Rattle.node_heap.specs.Forms.{Forms, node, chain, links_in, links_of, head_of, form_of}
 use Rattle.node_heap.specs.Heap.{Heap, row_at, form_at, links_at, owners_at, IsGraph}
 use Rattle.node_heap.specs.InPlace.{child_at, OwnsDown, path_start, path_then, Changes}
 use Rattle.node_heap.specs.Owner.{written, alone}
-use Rattle.node_heap.proofs.Reach.{SameBelow-link}
-use Rattle.node_heap.proofs.GraphLemmas.{IsGraph-acyclic}
-use Rattle.node_heap.proofs.Ways.{IsSolePath-Reaches}
-use Rattle.node_heap.proofs.Frames.{KeepsBelow-trans}
-use Rattle.node_heap.proofs.Edited.{linked_live, KeepsPaths-owned, Changes-more, Changes-path}
-use Rattle.node_heap.proofs.EditLaws.{Changes-Unchanged, Gains-trans}
-use Rattle.node_heap.proofs.AloneLemmas.{KeepsAlone-cons, KeepsAlone-own, alone-yes, written-own}
+use Rattle.node_heap.proofs.CallerLemmas.{test_same, test_other, count-link as count-cons, SameBelow-link, Reaches-by, IsGraph-acyclic, IsSolePath-Reaches, KeepsBelow-trans, linked_live, KeepsPaths-owned, Changes-more, Changes-path, Changes-Unchanged, Gains-trans, KeepsAlone-cons, KeepsAlone-own, alone-yes, written-own, alone-own, Reaches-live}
 use Rattle.champ_chain.specs.Entry.{Entry, IsEntry, key_at, key_of}
-use Rattle.champ_chain.specs.Chain.{AreChainRows}
-use Rattle.champ_chain.proofs.FrameLemmas.{links-form}
-use Rattle.champ_chain.proofs.CopyLemmas.{key-live}
-use Rattle.champ_chain.proofs.SpotLemmas.{first-row, rows-none}
-use Rattle.champ_trie.proofs.StayLemmas.{forms-below, key-stays, has-first, has-next}
-use Rattle.edit_trie.specs.Walk.{EditsChild}
+use Rattle.champ_chain.specs.Chain.{AreChainRows, AreBelow}
+use Rattle.champ_chain.proofs.CallerLemmas.{first-row, row-next, links-form, rows-none}
+use Rattle.champ_trie.proofs.CallerLemmas.{has-next, forms-below, key-stays, has-first}
+use Rattle.edit_trie.specs.Path.{chain_rows, next_in}
 use Rattle.edit_trie.specs.Chains.{IsFront, IsPast, OwnsRows, link_in}
-use Rattle.edit_trie.proofs.RowLemmas.{key-moved, row-form}
-use Rattle.edit_trie.proofs.ChildLemmas.{OwnsChild, child-linked, live-below, own-there, own-linked, own-beneath, gains-child, child-then}
-use Rattle.node_heap.proofs.AloneLemmas.{alone-own}
-use Rattle.edit_trie.proofs.DownLemmas.{none-live, off-first}
-use Rattle.edit_trie.proofs.FrontLemmas.{front-rest, front-push, front-above, front-turns}
+use Rattle.edit_trie.specs.Walk.{EditsChild}
+use Rattle.edit_trie.proofs.PathLemmas.{chain-row, order-row, next-row}
+use Rattle.edit_trie.proofs.RowLemmas.{row-form, keys-stay}
+use Rattle.edit_trie.proofs.ChildLemmas.{OwnsChild, child-linked, own-there, own-linked, own-beneath, gains-child, child-then}
+use Rattle.edit_trie.proofs.StepLemmas.{none-live, off-first}
+
+-- what is counted in a list with another first element
+pub count-later : (x y : ℕ) (ys : List ℕ) → 0 < count x ys → 0 < count x (y ∷ ys)
+count-later x y ys some = omega (arith, count-cons x y ys, some)
+
+pub count-here : (y : ℕ) (ys : List ℕ) → 0 < count y (y ∷ ys)
+count-here y ys = omega (arith, count-cons y y ys, test_same y y refl)
+
+module _ {K : Type 0} (F : Forms K) where
+  -- the rows of the front, and the chain rows after them
+  pub front-rows : (o : Option ℕ) (cs : List ℕ) (es : List (Entry K)) (rest : Option ℕ) (ts : List (Entry K)) → IsFront F o cs es rest → AreChainRows F rest ts → AreChainRows F o (es ++ ts)
+  unfolding IsFront AreChainRows
+  front-rows o [] [] rest ts is rows = subst (λ p. AreChainRows F p ts) (sym is) rows
+  front-rows o [] (e ∷ es) rest ts is rows = absurd is
+  front-rows o (c ∷ cs) [] rest ts is rows = absurd is
+  front-rows o (c ∷ cs) (e ∷ es) rest ts is rows = record { link = c; next = is.2; here = is.0; row = is.3; key = is.1; rest = front-rows is.2 cs es rest ts is.4 rows }
+
+  -- the chain rows after the front
+  pub front-rest : (o : Option ℕ) (cs : List ℕ) (es : List (Entry K)) (rest : Option ℕ) (ts : List (Entry K)) → IsFront F o cs es rest → AreChainRows F o (es ++ ts) → AreChainRows F rest ts
+  unfolding IsFront
+  front-rest o [] [] rest ts is rows = subst (λ p. AreChainRows F p ts) is rows
+  front-rest o [] (e ∷ es) rest ts is rows = absurd is
+  front-rest o (c ∷ cs) [] rest ts is rows = absurd is
+  front-rest o (c ∷ cs) (e ∷ es) rest ts is rows =
+      let at = first-row F c (e ∷ (es ++ ts)) (subst (λ p. AreChainRows F p (e ∷ (es ++ ts))) is.0 rows) in
+      let others : at.others ≡ es ++ ts = (let w = at.whole in cc) in
+      let same : at.next ≡ is.2 = row-next F c at.first.link e.link at.next is.2 at.row is.3 in
+      front-rest is.2 cs es rest ts is.4 (subst (λ p. AreChainRows F p (es ++ ts)) same (subst (AreChainRows F at.next) others at.rows))
+
+  -- one row more
+  pub front-push : (o : Option ℕ) (cs : List ℕ) (es : List (Entry K)) (c : ℕ) (e : Entry K) (next : Option ℕ) → IsFront F o cs es (Some c) → F c ≡ Some (node chain (e.link ∷ option_to_list next)) → IsEntry F e → IsFront F o (cs ++ c ∷ []) (es ++ e ∷ []) next
+  unfolding IsFront
+  front-push o [] [] c e next is row keyed = (is, keyed, next, row, refl)
+  front-push o [] (d ∷ es) c e next is row keyed = absurd is
+  front-push o (b ∷ cs) [] c e next is row keyed = absurd is
+  front-push o (b ∷ cs) (d ∷ es) c e next is row keyed = (is.0, is.1, is.2, is.3, front-push is.2 cs es c e next is.4 row keyed)
+
+  -- the last row of a front
+  pub record IsLastRow (o : Option ℕ) (cs : List ℕ) (es : List (Entry K)) (e : Entry K) (rest : Option ℕ) : Type 0 where
+    pub before : List ℕ
+    pub last : ℕ
+    pub whole : cs ≡ before ++ last ∷ []
+    pub front : IsFront F o before es (Some last)
+    pub row : F last ≡ Some (node chain (e.link ∷ option_to_list rest))
+    pub keyed : IsEntry F e
+
+  pub front-last : (o : Option ℕ) (cs : List ℕ) (es : List (Entry K)) (e : Entry K) (rest : Option ℕ) → IsFront F o cs (es ++ e ∷ []) rest → IsLastRow o cs es e rest
+  unfolding IsFront
+  front-last o [] [] e rest is = absurd is
+  front-last o [] (d ∷ es) e rest is = absurd is
+  front-last o (c ∷ []) [] e rest is = record { before = []; last = c; whole = refl; front = is.0; row = is.3 ∙ ap (λ (p : Option ℕ). Some (node chain (e.link ∷ option_to_list p))) is.4; keyed = is.1 }
+  front-last o (c ∷ b ∷ cs) [] e rest is = absurd is.4
+  front-last o (c ∷ cs) (d ∷ es) e rest is =
+      let at = front-last is.2 cs es e rest is.4 in
+      record { before = c ∷ at.before; last = at.last; whole = ap (λ ks. c ∷ ks) at.whole; front = (is.0, is.1, is.2, is.3, at.front); row = at.row; keyed = at.keyed }
+
+  -- there is no front from nothing on
+  front-none : (cs : List ℕ) (es : List (Entry K)) (r : ℕ) (rest : Option ℕ) → IsFront F None (cs ++ r ∷ []) es rest → ⊥
+  unfolding IsFront
+  front-none [] [] r rest is = is
+  front-none [] (e ∷ es) r rest is = absurd (let bad : None ≡ Some r = is.0 in cc)
+  front-none (c ∷ cs) [] r rest is = is
+  front-none (c ∷ cs) (e ∷ es) r rest is = absurd (let bad : None ≡ Some c = is.0 in cc)
+
+  -- a row of a front leads to the next one, from which there is a way to the last
+  next-above : (c x : ℕ) (next : Option ℕ) (cs : List ℕ) (es : List (Entry K)) (r : ℕ) (rest : Option ℕ) → F c ≡ Some (node chain (x ∷ option_to_list next)) → IsFront F next (cs ++ r ∷ []) es rest
+      → ((b : ℕ) → IsFront F (Some b) (cs ++ r ∷ []) es rest → Reaches (links_in F) b r) → (s : ℕ) × HasLink (links_in F) c s × Reaches (links_in F) s r
+  next-above c x None cs es r rest row is reach = absurd (front-none cs es r rest is)
+  next-above c x (Some b) cs es r rest row is reach = (b, has-next F c x b chain row, reach b is)
+
+  -- each row of a front leads down to its last
+  pub front-reach : (a : ℕ) (cs : List ℕ) (es : List (Entry K)) (r : ℕ) (rest : Option ℕ) → IsFront F (Some a) (cs ++ r ∷ []) es rest → Reaches (links_in F) a r
+  unfolding IsFront
+  front-reach a [] [] r rest is = absurd is
+  front-reach a [] (e ∷ es) r rest is = let same : a ≡ r = (let w = is.0 in cc) in subst (Reaches (links_in F) a) same (here a)
+  front-reach a (c ∷ cs) [] r rest is = absurd is
+  front-reach a (c ∷ cs) (e ∷ es) r rest is =
+      let same : a ≡ c = (let w = is.0 in cc) in
+      let up = next-above c e.link is.2 cs es r rest is.3 is.4 (λ b front. front-reach b cs es r rest front) in
+      subst (λ x. Reaches (links_in F) x r) (sym same) (below c up.0 r up.1 up.2)
+
+  pub front-above : (o : Option ℕ) (cs : List ℕ) (es : List (Entry K)) (r : ℕ) (rest : Option ℕ) → IsFront F o (cs ++ r ∷ []) es rest → (c : ℕ) → 0 < count c cs → (s : ℕ) × HasLink (links_in F) c s × Reaches (links_in F) s r
+  unfolding IsFront
+  front-above o [] es r rest is c some = absurd (omega (arith, some))
+  front-above o (b ∷ cs) [] r rest is c some = absurd is
+  front-above o (b ∷ cs) (e ∷ es) r rest is c some = elim (cases_eq c b) as (λ _. (s : ℕ) × HasLink (links_in F) c s × Reaches (links_in F) s r) [
+    | inl same ↦
+        let up = next-above b e.link is.2 cs es r rest is.3 is.4 (λ a front. front-reach a cs es r rest front) in
+        (up.0, subst (λ x. HasLink (links_in F) x up.0) (sym same) up.1, up.2)
+    | inr other ↦ front-above is.2 cs es r rest is.4 c (omega (arith, some, count-cons c b cs, test_other c b other))
+  ]
+
+  -- the rows of a front name no keys
+  pub front-keyless : (o : Option ℕ) (cs : List ℕ) (es : List (Entry K)) (rest : Option ℕ) → IsFront F o cs es rest → (x : ℕ) (k : K) → key_at F x ≡ Some k → count x cs ≡ 0
+  unfolding IsFront
+  front-keyless o [] es rest is x k keyed = refl
+  front-keyless o (c ∷ cs) [] rest is x k keyed = absurd is
+  front-keyless o (c ∷ cs) (e ∷ es) rest is x k keyed =
+      let other : x ≢ c = λ same. let bad : None ≡ Some k = sym (ap (key_of F) (ap F same ∙ is.3)) ∙ keyed in cc in
+      omega (arith, count-cons x c cs, test_other c x (λ same. other (sym same)), test_other x c other, front-keyless is.2 cs es rest is.4 x k keyed)
+
+  -- the rows of smaller keys on a path
+  pub front-path : (cmp : K → K → Ordering) (key : K) (own : ℕ → List ℕ) (n m : ℕ) (o : Option ℕ) (cs : List ℕ) (es : List (Entry K)) (rest : Option ℕ) → n ≡ length es + m → AreBelow cmp key es → IsFront F o cs es rest
+      → chain_rows cmp F key own n o ≡ cs ++ chain_rows cmp F key own m rest
+  unfolding IsFront
+  front-path cmp key own n m o [] [] rest fuel smaller is = ap (λ j. chain_rows cmp F key own j o) (omega (arith, fuel)) ∙ ap (chain_rows cmp F key own m) is
+  front-path cmp key own n m o [] (e ∷ es) rest fuel smaller is = absurd is
+  front-path cmp key own n m o (c ∷ cs) [] rest fuel smaller is = absurd is
+  front-path cmp key own zero m o (c ∷ cs) (e ∷ es) rest fuel smaller is = absurd (omega (arith, fuel))
+  front-path cmp key own (suc n) m o (c ∷ cs) (e ∷ es) rest fuel smaller is =
+      ap (chain_rows cmp F key own (suc n)) is.0
+      ∙ chain-row cmp F key own n c
+      ∙ ap (λ r. match_ordering r (c ∷ chain_rows cmp F key own n (next_in (F c))) (own c) []) (order-row cmp F key c e is.2 is.3 is.1 ∙ smaller.0)
+      ∙ ap (λ p. c ∷ chain_rows cmp F key own n p) (next-row F c e.link is.2 is.3)
+      ∙ ap (λ ks. c ∷ ks) (front-path cmp key own n m is.2 cs es rest (omega (arith, fuel)) smaller.1 is.4)
+
+module _ {K : Type 0} (F G : Forms K) (keys : (x : ℕ) (k : K) → key_at F x ≡ Some k → key_at G x ≡ Some k) where
+  -- a front whose rows stay
+  pub front-stays : (o : Option ℕ) (cs : List ℕ) (es : List (Entry K)) (rest : Option ℕ) → ((c : ℕ) → 0 < count c cs → G c ≡ F c) → IsFront F o cs es rest → IsFront G o cs es rest
+  unfolding IsFront
+  front-stays o [] [] rest same is = is
+  front-stays o [] (e ∷ es) rest same is = absurd is
+  front-stays o (c ∷ cs) [] rest same is = absurd is
+  front-stays o (c ∷ cs) (e ∷ es) rest same is =
+      (is.0, keys e.link e.key is.1, is.2, same c (count-here c cs) ∙ is.3, front-stays is.2 cs es rest (λ b some. same b (count-later b c cs some)) is.4)
+
+  -- a front whose last row leads on to another rest
+  pub front-turns : (o : Option ℕ) (cs : List ℕ) (r : ℕ) (es : List (Entry K)) (rest rest' : Option ℕ) → ((c : ℕ) → 0 < count c cs → G c ≡ F c)
+      → ((x : ℕ) → F r ≡ Some (node chain (x ∷ option_to_list rest)) → G r ≡ Some (node chain (x ∷ option_to_list rest'))) → IsFront F o (cs ++ r ∷ []) es rest → IsFront G o (cs ++ r ∷ []) es rest'
+  unfolding IsFront
+  front-turns o [] r [] rest rest' same turned is = absurd is
+  front-turns o [] r (e ∷ []) rest rest' same turned is = (is.0, keys e.link e.key is.1, rest', turned e.link (is.3 ∙ ap (λ (p : Option ℕ). Some (node chain (e.link ∷ option_to_list p))) is.4), refl)
+  front-turns o [] r (e ∷ d ∷ es) rest rest' same turned is = absurd is.4
+  front-turns o (c ∷ cs) r [] rest rest' same turned is = absurd is
+  front-turns o (c ∷ cs) r (e ∷ es) rest rest' same turned is =
+      (is.0, keys e.link e.key is.1, is.2, same c (count-here c cs) ∙ is.3, front-turns is.2 cs r es rest rest' (λ b some. same b (count-later b c cs some)) turned is.4)
 
 -- a link that was read is the child
 pub read-child : (ls ks : List ℕ) (i x : ℕ) → ls ≡ ks → i < length ks → x ≡ get_or ls i x → x ≡ get_or ks i 0
@@ -43,23 +174,6 @@ module _ {T : Type 0} where
   -- an edit of a child that makes more at most
   pub child-more : {row index c n : ℕ} {old new : Heap T} {spent gained : List ℕ} (c' n' : ℕ) → EditsChild row index old new spent gained c n → c ≤ c' → n ≤ n' → EditsChild row index old new spent gained c' n'
   child-more c' n' is few_c few_n = record { changes = Changes-more c' n' is.changes few_c few_n; head = is.head; links = is.links; beside = is.beside }
-
-  -- what has a value has it as its key
-  value-key : (F : Forms T) (f : Option (Form T)) (z : T) → value_of f ≡ Some z → key_of F f ≡ Some z
-  value-key F None z is = absurd cc
-  value-key F (Some (cell x)) z is = is
-  value-key F (Some (node k ls)) z is = absurd cc
-
-  -- keys, and what names one, stay where a row is written that has none
-  module _ (old new : Heap T) (r : ℕ) (keyless : key_at (form_at old) r ≡ None) (others : (m : ℕ) → m ≢ r → IsSome (row_at old m) → row_at new m ≡ row_at old m) where
-    pub keyed-row : (s : ℕ) (z : T) → key_at (form_at old) s ≡ Some z → row_at new s ≡ row_at old s
-    keyed-row s z has = others s (λ at. let bad : None ≡ Some z = sym keyless ∙ sym (ap (key_at (form_at old)) at) ∙ has in cc) (key-live old s z has)
-
-    pub cells-kept : (s : ℕ) (z : T) → value_of (form_at old s) ≡ Some z → value_of (form_at new s) ≡ Some z
-    cells-kept s z value = ap value_of (ap (option_map form_of) (keyed-row s z (value-key (form_at old) (form_at old s) z value))) ∙ value
-
-    pub keys-stay : (x : ℕ) (k : T) → key_at (form_at old) x ≡ Some k → key_at (form_at new) x ≡ Some k
-    keys-stay x k keyed = key-moved (form_at old) (form_at new) x x k (ap (option_map form_of) (keyed-row x k keyed)) cells-kept keyed
 
   -- nothing was made one's own yet
   pub owns-none : (h : Heap T) (row index : ℕ) → IsGraph h → owners_at h row ≡ 1 → index < length (links_at h row) → key_at (form_at h) row ≡ None → OwnsRows h h row index [] row index
@@ -102,36 +216,53 @@ module _ {T : Type 0} where
     others = λ rest next m live other off. (refl, other, off);
   }
 
+-- the place past the first row of a chain whose front was made one's own: what is above it stays where its row alone is written
+module _ {T : Type 0} {old now : Heap T} (new : Heap T) {row index r i : ℕ} {front : List (Entry T)} (inside : index < length (links_at old row)) (o : OwnsRows old now row index front r i)
+    (others : (m : ℕ) → m ≢ r → IsSome (row_at now m) → row_at new m ≡ row_at now m) where
+  pub inside-now : index < length (links_at now row)
+  inside-now = omega (arith, inside, ap length o.child.links, length-set (links_at old row) index (child_at now row index))
+
+  -- the row above the chain
+  pub past-row : IsPast now row index o.own r i → row_at new row ≡ row_at now row
+  past-row past =
+      let linked : HasLink (links_at now) row (child_at now row index) = child-linked now row index inside-now in
+      let down : Reaches (links_at now) (child_at now row index) r = IsSolePath-Reaches (owners_at now) (links_at now) (child_at now row index) r past.below in
+      others row (λ same. IsGraph-acyclic now o.child.changes.trades.graph row (child_at now row index) linked (subst (Reaches (links_at now) (child_at now row index)) (sym same) down)) (linked_live (row_at now row) (child_at now row index) linked)
+
+  -- and the rows of the front before it
+  pub before-same : (before : List ℕ) → o.own ≡ before ++ r ∷ [] → (b : ℕ) → 0 < count b before → form_at new b ≡ form_at now b
+  before-same before whole b some =
+      let above = front-above (form_at now) (link_in now row index) before front r (link_in now r i) (subst (λ ks. IsFront (form_at now) (link_in now row index) ks front (link_in now r i)) whole o.is) b some in
+      let has : HasLink (links_at now) b above.0 = subst (λ ks. 0 < count above.0 ks) (links-form now b) above.1 in
+      let way : Reaches (links_at now) above.0 r = Reaches-by (links_in (form_at now)) (links_at now) (λ l. sym (links-form now l)) above.0 r above.2 in
+      ap (option_map form_of) (others b (λ at. IsGraph-acyclic now o.child.changes.trades.graph b above.0 has (subst (Reaches (links_at now) above.0) (sym at) way)) (linked_live (row_at now b) above.0 has))
+
 -- the place after the front of a chain was written
-module _ {T : Type 0} (old now new : Heap T) (row index r i : ℕ) (front : List (Entry T)) (graph : IsGraph old) (inside : index < length (links_at old row)) (o : OwnsRows old now row index front r i)
-    (spent gained : List ℕ) (c n : ℕ) (change : Changes r now new spent gained c n) (unspent : (u : ℕ) → Reaches (links_at now) u row → count u spent ≡ 0)
+module _ {T : Type 0} {old now new : Heap T} {row index r i : ℕ} {front : List (Entry T)} (inside : index < length (links_at old row)) (o : OwnsRows old now row index front r i)
+    {spent gained : List ℕ} {c n : ℕ} (change : Changes r now new spent gained c n) (unspent : (u : ℕ) → Reaches (links_at now) u row → count u spent ≡ 0)
     (others : (m : ℕ) → m ≢ r → IsSome (row_at now m) → row_at new m ≡ row_at now m) (rest : Option ℕ)
-    (at_first : r ≡ row → i ≡ index → (head_of (row_at new row) ≡ head_of (row_at now row)) × (k : ℕ) × (rest ≡ Some k) × (links_at new row ≡ set (links_at now row) index k))
+    (heads : head_of (row_at new r) ≡ head_of (row_at now r)) (at_first : r ≡ row → i ≡ index → (k : ℕ) × (rest ≡ Some k) × (links_at new r ≡ set (links_at now r) i k))
     (at_row : i ≡ 1 → (x : ℕ) → form_at now r ≡ Some (node chain (x ∷ option_to_list (link_in now r i))) → form_at new r ≡ Some (node chain (x ∷ option_to_list rest))) where
   graph_now : IsGraph now
   graph_now = o.child.changes.trades.graph
 
-  inside_now : index < length (links_at now row)
-  inside_now = omega (arith, inside, ap length o.child.links, length-set (links_at old row) index (child_at now row index))
-
-  -- past the first row the row above stays
-  past-row : IsPast now row index o.own r i → row_at new row ≡ row_at now row
-  past-row past =
-      let linked : HasLink (links_at now) row (child_at now row index) = child-linked now row index inside_now in
-      let down : Reaches (links_at now) (child_at now row index) r = IsSolePath-Reaches (owners_at now) (links_at now) (child_at now row index) r past.below in
-      others row (λ same. IsGraph-acyclic now graph_now row (child_at now row index) linked (subst (Reaches (links_at now) (child_at now row index)) (sym same) down)) (linked_live (row_at now row) (child_at now row index) linked)
+  first-row-new : r ≡ row → i ≡ index → (head_of (row_at new row) ≡ head_of (row_at now row)) × (k : ℕ) × (rest ≡ Some k) × (links_at new row ≡ set (links_at now row) index k)
+  first-row-new same_row same_index =
+      let did = at_first same_row same_index in
+      let links : links_at new row ≡ set (links_at now row) i did.0 = subst (λ x. links_at new x ≡ set (links_at now x) i did.0) same_row did.2 in
+      (subst (λ x. head_of (row_at new x) ≡ head_of (row_at now x)) same_row heads, did.0, did.1, links ∙ ap (λ j. set (links_at now row) j did.0) same_index)
 
   first-child : (o.own ≡ []) × (now ≡ old) × (r ≡ row) × (i ≡ index) → EditsChild row index old new spent gained c (length front + n)
   first-child at =
-      let did = at_first at.2 at.3 in
-      let was : child_at new row index ≡ did.1 = ap (λ ks. get_or ks index 0) did.3 ∙ get_or-set_same (links_at now row) index did.1 0 inside_now in
+      let did = first-row-new at.2 at.3 in
+      let was : child_at new row index ≡ did.1 = ap (λ ks. get_or ks index 0) did.3 ∙ get_or-set_same (links_at now row) index did.1 0 (inside-now new inside o others) in
       let base : EditsChild row index now new spent gained c n = record {
         changes = subst (λ x. Changes x now new spent gained c n) at.2 change;
         head = did.0;
         links = did.3 ∙ ap (set (links_at now row) index) (sym was);
         beside = λ j within other m way.
             let has = child-linked now row j within in
-            others m (λ same. IsGraph-acyclic now graph_now row (child_at now row j) has (subst (Reaches (links_at now) (child_at now row j)) (same ∙ at.2) way)) (live-below now graph_now (child_at now row j) m (graph_now.closed row (child_at now row j) has) way);
+            others m (λ same. IsGraph-acyclic now graph_now row (child_at now row j) has (subst (Reaches (links_at now) (child_at now row j)) (same ∙ at.2) way)) (Reaches-live now graph_now (child_at now row j) m way (graph_now.closed row (child_at now row j) has));
       } in
       child-more c (length front + n) (subst (λ h. EditsChild row index h new spent gained c n) at.1 base) (omega arith) (omega arith)
 
@@ -150,24 +281,15 @@ module _ {T : Type 0} (old now new : Heap T) (row index r i : ℕ) (front : List
     | inr past ↦
         let keys = keys-stay now new r o.keyless others in
         let is : IsFront (form_at now) (link_in now row index) (past.before ++ r ∷ []) front (link_in now r i) = subst (λ ks. IsFront (form_at now) (link_in now row index) ks front (link_in now r i)) past.last o.is in
-        let same : (b : ℕ) → 0 < count b past.before → form_at new b ≡ form_at now b = λ b some.
-        let above = front-above (form_at now) (link_in now row index) past.before front r (link_in now r i) is b some in
-        let has : HasLink (links_at now) b above.0 = subst (λ ks. 0 < count above.0 ks) (links-form now b) above.1 in
-        let way : Reaches (links_at now) above.0 r = same-ways above.0 r above.2 in
-        ap (option_map form_of) (others b (λ at. IsGraph-acyclic now graph_now b above.0 has (subst (Reaches (links_at now) above.0) (sym at) way)) (linked_live (row_at now b) above.0 has)) in
-        let turned = front-turns (form_at now) (form_at new) keys (link_in now row index) past.before r front (link_in now r i) rest same (at_row past.second) is in
-        subst (λ p. IsFront (form_at new) p o.own front rest) (sym (ap (λ w. slice_get (links_of w) index) (past-row past))) (subst (λ ks. IsFront (form_at new) (link_in now row index) ks front rest) (sym past.last) turned)
+        let turned = front-turns (form_at now) (form_at new) keys (link_in now row index) past.before r front (link_in now r i) rest (before-same new inside o others past.before past.last) (at_row past.second) is in
+        subst (λ p. IsFront (form_at new) p o.own front rest) (sym (ap (λ w. slice_get (links_of w) index) (past-row new inside o others past))) (subst (λ ks. IsFront (form_at new) (link_in now row index) ks front rest) (sym past.last) turned)
   ]
     where
-      same-ways : (a b : ℕ) → Reaches (links_in (form_at now)) a b → Reaches (links_at now) a b
-      same-ways a b (here l) = here l
-      same-ways a b (below l k m has way) = below l k m (subst (λ ks. 0 < count k ks) (links-form now l) has) (same-ways k m way)
-
       by_none : (es : List (Entry T)) → IsFront (form_at now) (link_in now row index) [] es (link_in now r i) → (o.own ≡ []) × (now ≡ old) × (r ≡ row) × (i ≡ index) → IsFront (form_at new) (link_in new row index) o.own es rest
       by_none [] is at =
-          let did = at_first at.2 at.3 in
+          let did = first-row-new at.2 at.3 in
           let there : link_in new row index ≡ rest =
-          ap (λ ks. slice_get ks index) did.3 ∙ slice_get-get_or (set (links_at now row) index did.1) index 0 (omega (arith, inside_now, length-set (links_at now row) index did.1)) ∙ ap Some (get_or-set_same (links_at now row) index did.1 0 inside_now) ∙ sym did.2 in
+          ap (λ ks. slice_get ks index) did.3 ∙ slice_get-get_or (set (links_at now row) index did.1) index 0 (omega (arith, inside-now new inside o others, length-set (links_at now row) index did.1)) ∙ ap Some (get_or-set_same (links_at now row) index did.1 0 (inside-now new inside o others)) ∙ sym did.2 in
           subst (λ ks. IsFront (form_at new) (link_in new row index) ks [] rest) (sym at.0) there
       by_none (e ∷ es) is at = absurd is
 
@@ -183,13 +305,8 @@ module _ {T : Type 0} (old now new : Heap T) (row index r i k : ℕ) (front : Li
   others-own : (s : ℕ) → s ≢ r → IsSome (row_at now s) → row_at new s ≡ row_at now s
   others-own s other live = own.stays s other live
 
-  first-own : r ≡ row → i ≡ index → (head_of (row_at new row) ≡ head_of (row_at now row)) × (b : ℕ) × (Some k ≡ Some b) × (links_at new row ≡ set (links_at now row) index b)
-  first-own same_row same_index = (
-    ap (λ x. head_of (row_at new x)) (sym same_row) ∙ own.head ∙ ap (λ x. head_of (row_at now x)) same_row,
-    k,
-    refl,
-    ap (links_at new) (sym same_row) ∙ own.links ∙ ap (λ x. set (links_at now x) i k) same_row ∙ ap (λ x. set (links_at now row) x k) same_index,
-  )
+  first-own : r ≡ row → i ≡ index → (b : ℕ) × (Some k ≡ Some b) × (links_at new r ≡ set (links_at now r) i b)
+  first-own same_row same_index = (k, refl, own.links)
 
   row-own : i ≡ 1 → (x : ℕ) → form_at now r ≡ Some (node chain (x ∷ option_to_list (link_in now r i))) → form_at new r ≡ Some (node chain (x ∷ option_to_list (Some k)))
   row-own second x was =
@@ -211,10 +328,10 @@ module _ {T : Type 0} (old now new : Heap T) (row index r i k : ℕ) (front : Li
   next-there = ap (λ ks. slice_get ks 1) (sym (links-form new k) ∙ ap links_of form_new) ∙ second-of e.link next
 
   child-own : EditsChild row index old new [] [] 0 (length front + 1)
-  child-own = written-child old now new row index r i front graph inside o [] [] 0 1 own.changes (λ u up. refl) others-own (Some k) first-own row-own
+  child-own = written-child inside o own.changes (λ u up. refl) others-own (Some k) own.head first-own row-own
 
   front-own : IsFront (form_at new) (link_in new row index) o.own front (Some k)
-  front-own = written-front old now new row index r i front graph inside o [] [] 0 1 own.changes (λ u up. refl) others-own (Some k) first-own row-own
+  front-own = written-front inside o own.changes (λ u up. refl) others-own (Some k) own.head first-own row-own
 
   key-new : IsEntry (form_at new) e
   key-new = keys-stay now new r o.keyless others-own e.link e.key keyed
@@ -228,7 +345,7 @@ module _ {T : Type 0} (old now new : Heap T) (row index r i k : ℕ) (front : Li
         let there : child_at new row index ≡ k = ap (λ x. get_or (links_at new x) index 0) (sym at.2) ∙ ap (λ j. get_or (links_at new r) j 0) (sym at.3) ∙ own-there now new r i k own in
         record { before = o.own; last = refl; second = refl; sole = ap (owners_at new) there ∙ own.sole; below = subst (λ x. OwnsDown new x k) (sym there) path_start }
     | inr past ↦
-        let stays : row_at new row ≡ row_at now row = past-row old now new row index r i front graph inside o [] [] 0 1 own.changes (λ u up. refl) others-own (Some k) first-own row-own past in
+        let stays : row_at new row ≡ row_at now row = past-row new inside o others-own past in
         let there : child_at new row index ≡ child_at now row index = ap (λ w. get_or (links_of w) index 0) stays in
         let down : Reaches (links_at now) (child_at now row index) r = IsSolePath-Reaches (owners_at now) (links_at now) (child_at now row index) r past.below in
         let path : OwnsDown new (child_at now row index) r = KeepsPaths-owned own.changes.paths (child_at now row index) r (here r) past.below in
@@ -297,8 +414,8 @@ module _ {T : Type 0} (old now : Heap T) (row index r i : ℕ) where
     pub form_old : form_at old (child_at now r i) ≡ Some (node chain (entry.link ∷ option_to_list next))
     pub key_old : IsEntry (form_at old) entry
 
-  pub next-row : (n : ℕ) (es : List (Entry T)) → index < length (links_at old row) → n < length es → OwnsRows old now row index (take n es) r i → AreChainRows (form_at old) (Some (child_at old row index)) es → IsNext n es
-  next-row n es inside less o rows =
+  pub row-there : (n : ℕ) (es : List (Entry T)) → index < length (links_at old row) → n < length es → OwnsRows old now row index (take n es) r i → AreChainRows (form_at old) (Some (child_at old row index)) es → IsNext n es
+  row-there n es inside less o rows =
       let there : link_in old row index ≡ Some (child_at old row index) = slice_get-get_or (links_at old row) index 0 inside in
       let whole : AreChainRows (form_at old) (link_in old row index) (take n es ++ drop n es) = subst (λ p. AreChainRows (form_at old) p (take n es ++ drop n es)) (sym there) (subst (AreChainRows (form_at old) (Some (child_at old row index))) (sym (take-append-drop n es)) rows) in
       by_rest (drop n es) refl (link_in now r i) refl (front-rest (form_at old) (link_in old row index) o.rows (take n es) (link_in now r i) (drop n es) o.was whole)

@@ -3,24 +3,23 @@ use Rattle.std.proofs.Common.{◌≡◌, ◌≢◌, ℕ, ◌+◌, ◌*◌, ◌<�
 use Rattle.std.specs.Prelude.{◌↔◌}
 use Rattle.std.proofs.lemmas.Bool.{cases_eq}
 use Rattle.std.proofs.lemmas.List.{get_or-set_same, get_or-set_other, length-set}
-use Rattle.node_heap.specs.Links.{Links, count, HasLink, Reaches, here, below}
+use Rattle.node_heap.specs.Links.{Links, count, HasLink, Reaches, here}
 use Rattle.node_heap.specs.Forms.{links_of, head_of}
 use Rattle.node_heap.specs.Heap.{Heap, row_at, links_at, holds_at, owners_at, one_at, IsGraph}
 use Rattle.node_heap.specs.Calls.{KeepsBelow, Makes, Gains}
 use Rattle.node_heap.specs.InPlace.{child_at, other_at, IsSolePath, path_start, path_then, OwnsDown, Changes}
-use Rattle.node_heap.proofs.Counts.{count-cons, test_other, le-sum_by}
-use Rattle.node_heap.proofs.GraphLemmas.{IsGraph-acyclic}
-use Rattle.node_heap.proofs.Ways.{Reaches-avoids, Reaches-last}
-use Rattle.node_heap.proofs.Frames.{KeepsBelow-trans}
-use Rattle.node_heap.proofs.Edited.{count-at, linked_live, IsOwners-heap, KeepsBelow-sibling, KeepsBelow-apart, Reaches-back, Changes-path, Changes-beside}
-use Rattle.node_heap.proofs.EditLaws.{Gains-Changes}
+use Rattle.node_heap.proofs.CallerLemmas.{count-cons, test_other, le-sum_by, IsGraph-acyclic, Reaches-avoids, Reaches-last, KeepsBelow-trans, count-at, linked_live, IsOwners-heap, KeepsBelow-sibling, KeepsBelow-apart, Reaches-back, Changes-path, Changes-beside, Gains-Changes, count-two, Reaches-live}
 use Rattle.edit_trie.specs.Walk.{EditsChild}
-use Rattle.node_heap.proofs.OwnerLemmas.{count-two}
 
 -- a path with one owner a row, from a row further up
 pub sole-before : (O : ℕ → ℕ) (L : Links) (p k x : ℕ) → HasLink L p k → O k ≡ 1 → IsSolePath O L k x → IsSolePath O L p x
 sole-before O L p k x has one path_start = path_then p k path_start has one
 sole-before O L p k x has one (path_then l m path step sole) = path_then l m (sole-before O L p k l has one path) step sole
+
+-- the last row of a path of rows with one owner has one, if the first has
+pub sole-last : (O : ℕ → ℕ) (L : Links) (a b : ℕ) → IsSolePath O L a b → O a ≡ 1 → O b ≡ 1
+sole-last O L a b path_start one = one
+sole-last O L a b (path_then l k path has sole) one = sole
 
 -- the only link of a list
 pub only-one : (u l : ℕ) → 0 < count u (l ∷ []) → u ≡ l
@@ -38,11 +37,6 @@ module _ {T : Type 0} where
   pub child-once : (h : Heap T) (parent i j k : ℕ) → owners_at h k ≡ 1 → i < length (links_at h parent) → j < length (links_at h parent) → child_at h parent i ≡ k → child_at h parent j ≡ k → i ≢ j → ⊥
   child-once h parent i j k one in_i in_j at_i at_j other =
       omega (arith, one, count-two (links_at h parent) i j k other in_i in_j at_i at_j, le-sum_by (λ r. count k (links_of r)) None refl h.rows parent)
-
-  -- a row and all that it reaches is there
-  pub live-below : (h : Heap T) → IsGraph h → (a b : ℕ) → IsSome (row_at h a) → Reaches (links_at h) a b → IsSome (row_at h b)
-  live-below h graph a b some (here l) = some
-  live-below h graph a b some (below l k m step rest) = live-below h graph k m (graph.closed l k step) rest
 
   -- a link that is held and doesn't reach a row doesn't reach a child of it that has one owner
   pub apart-child : (h : Heap T) (row k l : ℕ) → HasLink (links_at h) row k → owners_at h k ≡ 1 → 0 < holds_at h l → ¬ Reaches (links_at h) l row → ¬ Reaches (links_at h) l k
@@ -112,7 +106,7 @@ module _ {T : Type 0} where
 
     -- what a child reaches is there, and it isn't the parent
     own-below : (s m : ℕ) → HasLink (links_at old) parent s → Reaches (links_at old) s m → row_at new m ≡ row_at old m
-    own-below s m has way = own-row m (live-below old graph s m (graph.closed parent s has) way) (λ same. IsGraph-acyclic old graph parent s has (subst (Reaches (links_at old) s) same way))
+    own-below s m has way = own-row m (Reaches-live old graph s m way (graph.closed parent s has)) (λ same. IsGraph-acyclic old graph parent s has (subst (Reaches (links_at old) s) same way))
 
     pub own-beneath : KeepsBelow old new (child_at old parent index)
     own-beneath m way = own-below (child_at old parent index) m (child-linked old parent index own.inside) way

@@ -1,139 +1,137 @@
--- The path of an edit at a row whose digit leads to a node: before, with the child the caller's own, and after.
-use Rattle.std.proofs.Common.{◌≡◌, ◌≢◌, ℕ, suc, ◌+◌, ◌<◌, ◌≤◌, List, ◌∷◌, length, get_or, set, refl, ap, sym, subst, ◌∙◌, arith, not, Option, Some, None, IsSome, option_map, inl, inr}
-use Rattle.std.specs.Prelude.{nat_eq}
+-- An edit that begins at a row down the way of its key's code is one of the whole map, where each row above has one owner.
+use Rattle.std.proofs.Common.{◌≡◌, ℕ, zero, suc, ◌+◌, ◌*◌, ◌<◌, ◌≤◌, List, length, get_or, refl, ap, sym, subst, ◌∙◌, arith, IsSome, option_map, true, false, inl, inr}
 use Rattle.std.specs.declared.cmp.Ordering.{Ordering}
-use Rattle.std.proofs.lemmas.Bool.{cases_eq}
-use Rattle.std.proofs.lemmas.List.Filters.{length-filter_both}
+use Rattle.std.specs.declared.cmp.Ordering.TheVariants.{Equal}
+use Rattle.std.specs.Cmp.{IsTotalOrder}
+use Rattle.std.proofs.lemmas.Bool.{cases_Bool}
+use Rattle.std.proofs.lemmas.Bool.Decides.{nat_tests}
+use Rattle.std.proofs.lemmas.List.{set-get_or}
 use Rattle.elem_core.specs.Codes.{digit_at}
 use Rattle.elem_core.specs.declared.codes.TheConstants.{DEEPEST}
-use Rattle.node_heap.specs.Links.{count, HasLink}
-use Rattle.node_heap.specs.Forms.{links_in, form_of}
-use Rattle.node_heap.specs.Heap.{Heap, row_at, form_at, links_at, owners_at}
-use Rattle.node_heap.specs.InPlace.{child_at}
-use Rattle.node_heap.specs.Owner.{written}
-use Rattle.node_heap.proofs.Counts.{count-cons, test_same}
-use Rattle.node_heap.proofs.Reach.{SameBelow-link}
-use Rattle.node_heap.proofs.AloneLemmas.{written-cons, written-own}
-use Rattle.champ_chain.specs.Entry.{Entry}
-use Rattle.champ_chain.proofs.FrameLemmas.{links-form}
-use Rattle.champ_trie.specs.Trie.{IsRow, AreSets, part}
-use Rattle.champ_trie.proofs.StayLemmas.{forms-below}
-use Rattle.edit_trie.specs.Path.{rows_to}
-use Rattle.edit_trie.specs.Spot.{IsSpot}
-use Rattle.edit_trie.specs.Walk.{EditsChild, CanEdit}
-use Rattle.edit_trie.specs.declared.row.Spot.TheVariants.{Entry as EntryAt, Node as NodeAt}
-use Rattle.edit_trie.proofs.RowLemmas.{row-child}
-use Rattle.edit_trie.proofs.SpotLemmas.{set-entry, set-node}
-use Rattle.edit_trie.proofs.ChildLemmas.{OwnsChild, own-beneath}
-use Rattle.edit_trie.proofs.StepLemmas.{row-set, deeper}
-use Rattle.edit_trie.proofs.PathLemmas.{SaysTheSame, BeginsThere, rows_below, rows-first, rows-last, rows-node, below-moved, below-linked}
+use Rattle.node_heap.specs.Links.{count, HasLink, Reaches, here}
+use Rattle.node_heap.specs.Forms.{links_of, form_of}
+use Rattle.node_heap.specs.Heap.{Heap, row_at, links_at, holds_at, owners_at, one_at, IsGraph}
+use Rattle.node_heap.specs.Calls.{KeepsBelow, Makes}
+use Rattle.node_heap.specs.InPlace.{child_at, other_at}
+use Rattle.node_heap.specs.Owner.{Owner, owned}
+use Rattle.node_heap.proofs.CallerLemmas.{IsOwned, Makes-refl, Reaches-then}
+use Rattle.champ_chain.specs.Entry.{Entry, link_with}
+use Rattle.champ_trie.specs.Trie.{part, code_by}
+use Rattle.champ_trie.specs.Reach.{alike_in}
+use Rattle.champ_trie.proofs.CallerLemmas.{part-alike}
+use Rattle.edit_trie.specs.Way.{StepsTo, IsSoleWay}
+use Rattle.edit_trie.specs.declared.way.Way.{Way}
+use Rattle.edit_trie.specs.Walk.{CanEditBelow, HasPair, OwnsIn, PutsIn}
+use Rattle.edit_trie.proofs.ChildLemmas.{OwnsChild, owns-child, child-linked}
+use Rattle.edit_trie.proofs.RootLemmas.{changes-none}
+use Rattle.edit_trie.proofs.StepLemmas.{AtRow, at-row, part-link, OwnsNext, owns-next, can-below}
+use Rattle.edit_trie.proofs.EditLemmas.{pair-below, owns-node, apart-below, puts-node}
 
--- what is there isn't nothing
-pub none-live : {X : Type 0} (r : Option X) → r ≡ None → IsSome r → ⊥
-none-live None is live = absurd cc
-none-live (Some x) is live = absurd cc
+itself : (x : ℕ) → other_at x x ≡ 0
+itself x = grind (arith, nat_tests)
 
--- a row that was there and isn't written, where the first row of the path has one owner
-pub off-first : {T : Type 0} (h : Heap T) (x m : ℕ) (path : List ℕ) → owners_at h x ≡ 1 → count m (written h (x ∷ path)) ≡ 0 → (m ≢ x) × (count m (written h path) ≡ 0)
-off-first h x m path one off =
-    let both : count m (x ∷ written h path) ≡ 0 = subst (λ ks. count m ks ≡ 0) (written-cons h x path one) off in
-    (λ same. absurd (omega (arith, both, count-cons m x (written h path), test_same x m (sym same))), omega (arith, both, count-cons m x (written h path)))
+-- a child with one owner is its row's own already
+owns-itself : {T : Type 0} (h : Heap T) (row i : ℕ) → IsGraph h → i < length (links_at h row) → owners_at h (child_at h row i) ≡ 1 → OwnsChild h h row i (child_at h row i)
+owns-itself h row i graph inside one =
+    owns-child inside (λ _. one, λ _. refl) refl one (λ other. absurd (other refl)) refl (sym (set-get_or (links_at h row) i 0)) (λ k other live. refl) (λ k other apart. refl)
+    (λ k. subst (λ z. owners_at h k + one_at (child_at h row i) k ≡ owners_at h k + (one_at (child_at h row i) k + z * count k (links_at h (child_at h row i)))) (sym (itself (child_at h row i))) (omega arith))
+    (changes-none row h 1 graph) (subst (Makes h h 0) (sym (itself (child_at h row i))) (Makes-refl h graph))
 
--- and isn't the row that a child is after it was made its parent's own
-pub apart-owned : {T : Type 0} (old mid : Heap T) (row i k : ℕ) → OwnsChild old mid row i k → (m : ℕ) (tail : List ℕ) → IsSome (row_at old m) → count m (written old (child_at old row i ∷ tail)) ≡ 0 → m ≢ k
-apart-owned old mid row i k own m tail live off = elim (cases_eq k (child_at old row i)) as (λ _. m ≢ k) [
-  | inl itself ↦ λ same. (off-first old (child_at old row i) m tail (own.same.0 itself) off).0 (same ∙ itself)
-  | inr copy ↦ λ same. none-live (row_at old m) (ap (row_at old) same ∙ own.fresh copy) live
+-- the way stays where all below the root does, and no row of it gains an owner
+pub way-stays : {T : Type 0} (old new : Heap T) (root c : ℕ) → IsGraph old → KeepsBelow old new root → ((k : ℕ) → IsSome (row_at old k) → owners_at new k ≡ owners_at old k)
+    → (n last : ℕ) → IsSoleWay old root c n last → IsSoleWay new root c n last × Reaches (links_at old) root last
+unfolding IsSoleWay
+way-stays old new root c graph keeps owners zero last way = (way, subst (Reaches (links_at old) root) way (here root))
+way-stays old new root c graph keeps owners (suc n) last way =
+    let row = way.0 in
+    let i = way.1 in
+    let step = way.3 in
+    let up = way-stays old new root c graph keeps owners n row way.2 in
+    let same : row_at new row ≡ row_at old row = keeps row up.1 in
+    let child : child_at new row i ≡ child_at old row i = ap (λ r. get_or (links_of r) i 0) same in
+    let linked : HasLink (links_at old) row (child_at old row i) = child-linked old row i step.inside in
+    let steps : StepsTo new n row c i = record {
+      spot = λ d e m ls was. step.spot d e m ls (record { row = sym (ap (option_map form_of) same) ∙ was.row; sets = was.sets });
+      inside = omega (arith, step.inside, ap (λ r. length (links_of r)) same);
+      sole = ap (owners_at new) child ∙ owners (child_at old row i) (graph.closed row (child_at old row i) linked) ∙ step.sole;
+    } in
+    ((row, i, up.0, steps, way.4 ∙ sym child), subst (Reaches (links_at old) root) (sym way.4) (Reaches-then (links_at old) root row (child_at old row i) up.1 linked))
+
+-- a root that has one owner already is its owner's own, with the way below it
+pub way-owned : {T : Type 0} {owner : Owner} {old mid : Heap T} {r : ℕ} (own : IsOwned owner old mid r) (c n last : ℕ) → owners_at old (owned old owner) ≡ 1 → IsSoleWay old (owned old owner) c n last → IsSoleWay mid r c n last
+way-owned {owner = owner} {old = old} {mid = mid} {r = r} own c n last one way =
+    subst (λ x. IsSoleWay mid x c n last) (sym same) ((way-stays old mid (owned old owner) c own.graph own.below (λ k live. owners k) n last way).0)
+  where
+    same : r ≡ owned old owner
+    same = own.same.1 one
+
+    owners : (k : ℕ) → owners_at mid k ≡ owners_at old k
+    owners k =
+        let moved = subst (λ x. owners_at mid k + one_at (owned old owner) k ≡ owners_at old k + (one_at x k + other_at (owned old owner) x * count k (links_at old (owned old owner)))) same (own.owners k) in
+        let whole = subst (λ z. owners_at mid k + one_at (owned old owner) k ≡ owners_at old k + (one_at (owned old owner) k + z * count k (links_at old (owned old owner)))) (itself (owned old owner)) moved in
+        omega (arith, whole)
+
+-- and from there on there is always a way of no rows
+pub way-none : {T : Type 0} (h : Heap T) (root c n row : ℕ) → row ≡ root → n ≡ 0 → IsSoleWay h root c n row
+unfolding IsSoleWay
+way-none h root c n row is none = subst (λ m. IsSoleWay h root c m row) (sym none) (sym is)
+
+-- an edit begins at the row down the way where each above it has one owner, and else at the root
+pub way-begun : {T : Type 0} {owner : Owner} {old mid : Heap T} {r first : ℕ} {way from : Way} (c : ℕ) → IsOwned owner old mid r → first ≡ owned old owner → (way.sole ≡ true → (owners_at old first ≡ 1) × IsSoleWay old first c way.depth way.row)
+    → (way.sole ≡ true → from ≡ way) → (way.sole ≡ false → (from.row ≡ r) × (from.depth ≡ 0)) → IsSoleWay mid r c from.depth from.row
+way-begun {owner = owner} {old = old} {mid = mid} {r = r} {first = first} {way = way} {from = from} c own is was same top = elim (cases_Bool way.sole) as (λ _. IsSoleWay mid r c from.depth from.row) [
+  | inl sole ↦
+      let there = was sole in
+      let one : owners_at old (owned old owner) ≡ 1 = subst (λ l. owners_at old l ≡ 1) is there.0 in
+      let path : IsSoleWay old (owned old owner) c way.depth way.row = subst (λ l. IsSoleWay old l c way.depth way.row) is there.1 in
+      subst (λ (w : Way). IsSoleWay mid r c w.depth w.row) (sym (same sole)) (way-owned own c way.depth way.row one path)
+  | inr shared ↦ way-none mid r c from.depth from.row (top shared).0 (top shared).1
 ]
 
--- the row with another link at the index of an entry, and of a node
-module _ {T : Type 0} (old new : Heap T) (row i d e n : ℕ) (ls : List ℕ) (is : IsRow (form_at old) row d e n ls) {a b : ℕ} {spent gained : List ℕ} (edits : EditsChild row i old new spent gained a b) (p : ℕ) (small : p < 32) where
-  pub row-entry : IsSpot e n p (EntryAt i) → IsRow (form_at new) row d e n (set ls i (child_at new row i)) × (get_or (set ls i (child_at new row i)) i 0 ≡ child_at new row i)
-  row-entry spot =
-      let to = set-entry e n ls is.sets p small (child_at new row i) spot.0 in
-      let now = row-set old new row i edits d e n ls is (subst (λ j. AreSets e n (set ls j (child_at new row i))) (sym spot.1) to.sets) in
-      (now, sym (row-child new row d e n (set ls i (child_at new row i)) now i))
+-- what is done at a row down the way is done at the root
+pub record Lifts {T : Type 0} (cmp : T → T → Ordering) (code : T → ℕ) (h : Heap T) (root c : ℕ) (E : List (Entry T)) (key : T) (depth row : ℕ) : Type 0 where
+  pub left : ℕ
+  pub entries : List (Entry T)
+  pub less : left ≤ DEEPEST
+  pub can : CanEditBelow cmp code h left depth row c entries
+  pub link : link_with cmp key entries ≡ link_with cmp key E
+  pub alike : alike_in code c entries ≡ alike_in code c E
+  pub pair : (x : Entry T) → HasPair cmp h E key x → HasPair cmp h entries key x
+  pub apart : (l : ℕ) → 0 < holds_at h l → ¬ Reaches (links_at h) l root → ¬ Reaches (links_at h) l row
+  pub owns : (x : Entry T) → HasPair cmp h E key x → (new : Heap T) (r : ℕ) → OwnsIn cmp code h new left depth row c entries key x r → OwnsIn cmp code h new DEEPEST 0 root c E key x r
+  pub puts : (l : ℕ) → 0 < holds_at h l → ¬ Reaches (links_at h) l root → (new : Heap T) → PutsIn cmp code h new left depth row c entries key l → PutsIn cmp code h new DEEPEST 0 root c E key l
 
-  pub row-node : IsSpot e n p (NodeAt i) → IsRow (form_at new) row d e n (set ls i (child_at new row i)) × (get_or (set ls i (child_at new row i)) i 0 ≡ child_at new row i)
-  row-node spot =
-      let to = set-node e n ls is.sets p small (child_at new row i) spot.0 spot.1 in
-      let now = row-set old new row i edits d e n ls is (subst (λ j. AreSets e n (set ls j (child_at new row i))) (sym spot.2) to.sets) in
-      (now, sym (row-child new row d e n (set ls i (child_at new row i)) now i))
+module _ {T : Type 0} {cmp : T → T → Ordering} {code_of : T → ℕ} (o : IsTotalOrder cmp) (equal : (j k : T) → cmp j k ≡ Equal → code_of j ≡ code_of k) (bits : ℕ) {h : Heap T} {root c : ℕ} {E : List (Entry T)} (key : T) (is_code : c ≡ code_by code_of bits key)
+    (can : CanEditBelow cmp (code_by code_of bits) h DEEPEST 0 root c E) where
+  abbrev code : T → ℕ
+  code = code_by code_of bits
 
-module _ {T : Type 0} (cmp : T → T → Ordering) (code : T → ℕ) (old : Heap T) (left d row c : ℕ) (E : List (Entry T)) (can : CanEdit cmp code old left d row c E) (e n : ℕ) (ls : List ℕ) (is : IsRow (form_at old) row d e n ls) where
-  -- no more entries have the digit than there are
-  pub part-short : length (part cmp code d (digit_at c d) E) ≤ length E
-  part-short =
-      omega (arith, length-filter_both (λ (z : Entry T). nat_eq (digit_at (code z.key) d) (digit_at c d)) (λ (z : Entry T). not (nat_eq (digit_at (code z.key) d) (digit_at c d))) (λ _. refl) E)
+  one-down : (n row i : ℕ) → n < DEEPEST → Lifts cmp (code_by code_of bits) h root c E key n row → StepsTo h n row c i → Lifts cmp (code_by code_of bits) h root c E key (n + 1) (child_at h row i)
+  one-down n row i few up step = record {
+    left = s.deeper.m;
+    entries = part cmp code n (digit_at c n) up.entries;
+    less = omega (arith, up.less, s.deeper.is);
+    can = can-below a s;
+    link = part-link a ∙ up.link;
+    alike = part-alike cmp code n c up.entries ∙ up.alike;
+    pair = λ x p. pair-below a o (up.pair x p) s;
+    apart = λ l held off. apart-below a l s held (up.apart l held off);
+    owns = λ x p new r did. up.owns x p new r (owns-node a o (up.pair x p) s new r did);
+    puts = λ l held off new did. up.puts l held off new (puts-node a l s held (up.apart l held off) new did);
+  }
+    where
+      a : AtRow cmp code h up.left n row c up.entries key
+      a = at-row cmp code_of bits equal is_code up.can
 
-  module _ (i : ℕ) (spot : IsSpot e n (digit_at c d) (NodeAt i)) where
-    low : digit_at c d < 32
-    low = omega arith
+      s : OwnsNext a h i (child_at h row i)
+      s = owns-next a (step.spot n a.entries a.nodes a.links a.is) few (owns-itself h row i up.can.graph step.inside step.sole)
 
-    -- the node is a chain
-    module _ (none : left ≡ 0) (says chains : ℕ → List ℕ) where
-      pub chain-rows : (h : Heap T) (js : List ℕ) → IsRow (form_at h) row d e n js → rows_to says chains (form_at h) (suc left) d c row ≡ row ∷ chains (get_or js i 0)
-      chain-rows h js there =
-          rows-node says chains (form_at h) left d c row e n js there i spot ∙ ap (λ m. row ∷ rows_to says chains (form_at h) m (suc d) c (get_or js i 0)) none
-          ∙ ap (λ ks. row ∷ ks) (rows-last says chains (form_at h) (suc d) c (get_or js i 0))
-
-      pub was-chain : rows_to says chains (form_at old) (suc left) d c row ≡ row ∷ chains (child_at old row i)
-      was-chain = chain-rows old ls is ∙ ap (λ k. row ∷ chains k) (sym (row-child old row d e n ls is i))
-
-      pub now-chain : {new : Heap T} {spent gained : List ℕ} {a b : ℕ} → EditsChild row i old new spent gained a b → rows_to says chains (form_at new) (suc left) d c row ≡ row ∷ chains (child_at new row i)
-      now-chain {new = new} edits =
-          let made = row-node old new row i d e n ls is edits (digit_at c d) low spot in
-          chain-rows new (set ls i (child_at new row i)) made.0 ∙ ap (λ k. row ∷ chains k) made.1
-
-    -- it is a row of the next depth
-    module _ (mid : Heap T) (k : ℕ) (less : d < DEEPEST) (own : OwnsChild old mid row i k) where
-      abbrev j : ℕ
-      j = child_at old row i
-
-      abbrev m' : ℕ
-      m' = (deeper cmp code old row d left c E can.below e n ls is i spot less).m
-
-      is-left : left ≡ suc m'
-      is-left = (deeper cmp code old row d left c E can.below e n ls is i spot less).is
-
-      deep : suc d ≡ d + 1
-      deep = omega arith
-
-      pub was-node : (says chains : ℕ → List ℕ) → rows_to says chains (form_at old) (suc left) d c row ≡ row ∷ child_at old row i ∷ rows_below says chains (form_at old) m' (d + 1) c j
-      was-node says chains =
-          let F = form_at old in
-          rows-node says chains F left d c row e n ls is i spot
-          ∙ ap (λ q. row ∷ rows_to says chains F left (suc d) c q) (sym (row-child old row d e n ls is i))
-          ∙ ap (λ q. row ∷ rows_to says chains F left q c j) deep ∙ ap (λ q. row ∷ rows_to says chains F q (d + 1) c j) is-left
-          ∙ ap (λ ks. row ∷ ks) (rows-first says chains F m' (d + 1) c j)
-
-      pub mid-node : (says chains says' chains' : ℕ → List ℕ) → SaysTheSame cmp code (form_at old) (form_at mid) says chains says' chains' → rows_to says' chains' (form_at mid) (suc m') (d + 1) c k ≡ k ∷ rows_below says chains (form_at old) m' (d + 1) c j
-      mid-node says chains says' chains' same =
-          let F = form_at old in
-          let G = form_at mid in
-          let below = (deeper cmp code old row d left c E can.below e n ls is i spot less).below in
-          rows-first says' chains' G m' (d + 1) c k
-          ∙ ap (λ ks. k ∷ ks) (below-moved cmp code F G says chains says' chains' same m' (d + 1) c j k (part cmp code d (digit_at c d) E) (ap (option_map form_of) own.row)
-          (λ s has. SameBelow-link (links_in F) F G j s has (forms-below old mid j (own-beneath old mid row i k can.graph own))) below.trie)
-
-      pub now-node : {new : Heap T} {spent gained : List ℕ} {a b : ℕ} → EditsChild row i old new spent gained a b → child_at new row i ≡ k → (says chains : ℕ → List ℕ) → rows_to says chains (form_at new) (suc left) d c row ≡ row ∷ rows_to says chains (form_at new) (suc m') (d + 1) c k
-      now-node {new = new} edits there says chains =
-          let G = form_at new in
-          let made = row-node old new row i d e n ls is edits (digit_at c d) low spot in
-          rows-node says chains G left d c row e n (set ls i (child_at new row i)) made.0 i spot
-          ∙ ap (λ q. row ∷ rows_to says chains G left (suc d) c q) (made.1 ∙ there)
-          ∙ ap (λ q. row ∷ rows_to says chains G left q c k) deep ∙ ap (λ q. row ∷ rows_to says chains G q (d + 1) c k) is-left
-
-      -- the child leads to the next row of the path
-      pub next-node : (says chains : ℕ → List ℕ) → BeginsThere says chains → 1 ≤ length (rows_below says chains (form_at old) m' (d + 1) c j) → HasLink (links_at old) j (get_or (rows_below says chains (form_at old) m' (d + 1) c j) 0 0)
-      next-node says chains begins some =
-          let below = (deeper cmp code old row d left c E can.below e n ls is i spot less).below in
-          subst (λ ks. 0 < count (get_or (rows_below says chains (form_at old) m' (d + 1) c j) 0 0) ks) (links-form old j)
-          (below-linked cmp code says chains begins (form_at old) m' (d + 1) c j (part cmp code d (digit_at c d) E) below.trie some)
-
-      -- what the path doesn't write stays, and isn't written below
-      pub off-node : (tail : List ℕ) → (1 ≤ length tail → HasLink (links_at old) j (get_or tail 0 0)) → (m : ℕ) → IsSome (row_at old m) → count m (written old (row ∷ j ∷ tail)) ≡ 0 → (row_at mid m ≡ row_at old m) × (count m (written mid (k ∷ tail)) ≡ 0)
-      off-node tail next m live off =
-          let first = off-first old row m (j ∷ tail) can.sole off in
-          let fresh : k ≢ j → m ≢ k = λ copy same. none-live (row_at old m) (ap (row_at old) same ∙ own.fresh copy) live in
-          (own.stays m first.0 live, written-own old mid j k tail own.same own.sole own.owners can.graph next m fresh first.1)
+  pub lifts : (n last : ℕ) → n ≤ DEEPEST → IsSoleWay h root c n last → Lifts cmp (code_by code_of bits) h root c E key n last
+  unfolding IsSoleWay
+  lifts zero last few way =
+      subst (Lifts cmp code h root c E key 0) way
+      (record { left = DEEPEST; entries = E; less = omega arith; can = can; link = refl; alike = refl; pair = λ x p. p; apart = λ l held off. off; owns = λ x p new r did. did; puts = λ l held off new did. did })
+  lifts (suc n) last few way =
+      let next : n + 1 ≡ suc n = omega arith in
+      let below = one-down n way.0 way.1 (omega (arith, few)) (lifts n way.0 (omega (arith, few)) way.2) way.3 in
+      subst (Lifts cmp code h root c E key (suc n)) (sym way.4) (subst (λ m. Lifts cmp code h root c E key m (child_at h way.0 way.1)) next below)

@@ -1,161 +1,62 @@
--- The laws of edits of maps in place: what keeps the rows that aren't written keeps what is held beside, and the values.
-use Rattle.std.proofs.Common.{◌≡◌, ◌≢◌, ℕ, zero, suc, ◌<◌, List, [], ◌∷◌, length, refl, ap, sym, subst, ◌∙◌, arith, Bool, false, Option, Some, None}
-use Rattle.std.specs.Prelude.{◌==◌, option_to_list, remove, if◌then◌else◌, IsSome}
-use Rattle.std.proofs.lemmas.Bool.Decides.{nat_tests}
-use Rattle.std.specs.Ordering.{match_ordering}
-use Rattle.std.specs.List.{All, AllZip}
-use Rattle.std.proofs.lemmas.List.Elements.{All-nil, All-cons, All-head, All-tail, All-weaker}
+-- The laws of edits of maps in place: what keeps the rows that aren't written keeps what is held beside, and the values; and what a change at a key's own pair makes of the map.
+use Rattle.std.proofs.Common.{◌≡◌, ◌≢◌, ℕ, zero, suc, ◌<◌, List, [], ◌∷◌, ◌++◌, length, refl, ap, sym, subst, ◌∙◌, arith, Bool, false, Option, Some, None, ◌⊎◌, ◌≤◌, option_map, inl, inr}
+use Rattle.std.specs.Prelude.{◌==◌, option_to_list, remove, IsSome, count_by, unwrap_or, if◌then◌else◌}
+use Rattle.std.specs.List.{All, AllZip, find}
 use Rattle.std.specs.declared.cmp.Ordering.{Ordering}
-use Rattle.std.specs.declared.cmp.Ordering.TheVariants.{Less, Equal, Greater}
+use Rattle.std.specs.declared.cmp.Ordering.TheVariants.{Equal}
+use Rattle.std.specs.Cmp.{IsTotalOrder}
+use Rattle.std.proofs.lemmas.Bool.Decides.{nat_tests}
+use Rattle.std.proofs.lemmas.List.Elements.{All-nil, All-cons, All-head, All-tail, All-weaker}
+use Rattle.std.proofs.lemmas.Bool.{cases_eq}
 use Rattle.elem_core.specs.Codes.{digit_at}
-use Rattle.elem_core.specs.declared.codes.TheConstants.{DEEPEST}
+use Rattle.elem_core.specs.declared.codes.TheConstants.{DEEPEST, LEVELS}
 use Rattle.node_heap.specs.Links.{count, HasLink, Reaches, here, below}
-use Rattle.node_heap.specs.Forms.{node, chain, links_of, links_in}
-use Rattle.node_heap.proofs.Reach.{Reaches-by}
-use Rattle.node_heap.specs.Heap.{Heap, row_at, form_at, links_at, holds_at, live_count, IsGraph}
+use Rattle.node_heap.specs.Forms.{node, chain, links_of, links_in, Forms, pair, head_of, form_of}
+use Rattle.node_heap.specs.Heap.{Heap, row_at, form_at, links_at, holds_at, live_count, IsGraph, owners_at}
 use Rattle.node_heap.specs.Calls.{KeepsBelow, HasHolds}
-use Rattle.node_heap.specs.InPlace.{child_at}
-use Rattle.node_heap.specs.Owner.{by_hold, by_place, owned, holds_beside, links_beside, relinked, WritesOnly, WritesOnlyLeft}
-use Rattle.node_heap.proofs.Counts.{test_same, one_at-flip}
-use Rattle.node_heap.proofs.BuildLemmas.{count-cons}
-use Rattle.champ_chain.specs.Entry.{Entry, key_at, key_of}
-use Rattle.champ_chain.specs.Chain.{IsChain, AreChainRows}
-use Rattle.champ_chain.proofs.FrameLemmas.{links-form}
-use Rattle.champ_trie.specs.Trie.{IsTrie, IsPlace, part, place_of, code_by}
+use Rattle.node_heap.specs.InPlace.{child_at, OwnsDown, path_start, path_then, Changes, ReachesAround, at_once}
+use Rattle.node_heap.specs.Owner.{Owner, by_hold, by_place, owned, held_by, holds_beside, links_beside, relinked, WritesOnly, WritesOnlyLeft}
+use Rattle.node_heap.proofs.CallerLemmas.{Reaches-by, test_same, one_at-flip, count-link as count-cons, IsDown, others-beside, others-below, left-below, left-held, Reaches-trans, IsOwners-heap, around-path, Reaches-last, Reaches-around, Reaches-avoids, ReachesAround-then, ReachesAround-trans, ReachesAround-same, IsGraph-acyclic}
+use Rattle.champ_chain.specs.Entry.{Entry, key_at, key_of, entry, IsEntry, has_key, others}
+use Rattle.champ_chain.specs.Chain.{AreChainRows}
+use Rattle.champ_chain.proofs.CallerLemmas.{links-form, same-sym, same-find}
+use Rattle.champ_trie.specs.Trie.{IsTrie, IsPlace, part, place_of, code_by, IsCanon}
 use Rattle.champ_trie.specs.declared.place.Place.{Place}
 use Rattle.champ_trie.specs.declared.place.Place.TheVariants.{Entry as At, Node, Empty}
-use Rattle.champ_trie.proofs.StayLemmas.{at-link, node-link, has-first, has-next, canon-reach}
+use Rattle.champ_trie.proofs.CallerLemmas.{at-link, node-link, has-first, has-next, canon-reach, all-same, all-parts, canon-around, has-one-set, takes-any-order, names-keys}
+use Rattle.champ_trie.specs.Laws.{SameAround}
 use Rattle.champ_kinds.specs.Root.{Root}
-use Rattle.champ_kinds.specs.Binding.{Binding}
+use Rattle.champ_kinds.specs.Binding.{Binding, binding, binds, bind, kept_key}
 use Rattle.champ_kinds.specs.Kinds.{IsPair, IsMapOf}
-use Rattle.edit_trie.specs.Path.{rows_to, rows_from_place, chain_rows, order_in, order_of, entry_in, next_in, own_entry, row_and_entry, edit_path, pair_path}
-use Rattle.edit_trie.specs.Edit.{by_bits}
-use Rattle.edit_trie.specs.Laws.{EditsKeepValues, CutsKeepValues, CutsKeepHeld}
-use Rattle.edit_trie.proofs.PathLemmas.{rows_below, rows-first, rows-last, place-in, next-row}
-use Rattle.edit_trie.proofs.MapLemmas.{pair-key}
-use Rattle.node_heap.proofs.BesidePath.{IsDown, down-end, down-then, others-beside, others-below, left-below, left-held}
+use Rattle.champ_kinds.proofs.CallerLemmas.{zip-as, zip-all}
+use Rattle.edit_trie.specs.Path.{pair_path}
+use Rattle.edit_trie.specs.Edit.{by_bits, IsPairOfKey}
+use Rattle.edit_trie.specs.Root.{CanOwn, IsApart}
+use Rattle.edit_trie.specs.Laws.{EditsKeepValues, CutsKeepValues, CutsKeepHeld, PairChangesBind, PairChangesKeepValues}
+use Rattle.edit_trie.proofs.PathLemmas.{Paths, path_of, edit-paths, pair-paths, rows_below, rows-first, IsKeyless, down-below}
+use Rattle.edit_trie.proofs.MapLemmas.{pair-key, all-found, found-link, zip-found, one-out, pair-by, pairs-left, all-others}
+use Rattle.edit_trie.proofs.RowLemmas.{row-form}
+use Rattle.edit_trie.proofs.ChildLemmas.{sole-before}
+use Rattle.edit_trie.proofs.StepLemmas.{find-has}
 
 module _ {T : Type 0} (h : Heap T) where
-  -- a row that names no entry: each row of a path that is followed by another
-  abbrev pub IsKeyless : ℕ → Type 0
-  IsKeyless l = key_at (form_at h) l ≡ None
+  -- a path of a map's root, from the root down
+  module _ {cmp : T → T → Ordering} {code : T → ℕ} {bits root : ℕ} {M : List (Binding T)} (is : IsMapOf cmp code h (by_bits bits root) M) (p : Paths cmp (code_by code bits)) (c : ℕ) where
+    abbrev tail : List ℕ
+    tail = rows_below (p.entry (form_at h)) (p.chain (form_at h) (live_count h)) (form_at h) DEEPEST 0 c root
 
-  as-linked : (l k : ℕ) → 0 < count k (links_of (form_at h l)) → HasLink (links_at h) l k
-  as-linked l k has = subst (λ xs. 0 < count k xs) (links-form h l) has
+    tail-is : path_of p (form_at h) (live_count h) LEVELS 0 c root ≡ root ∷ tail
+    tail-is = rows-first (p.entry (form_at h)) (p.chain (form_at h) (live_count h)) (form_at h) DEEPEST 0 c root
 
-  module _ (cmp : T → T → Ordering) where
-    -- what is said of an entry and of a chain goes down from a row without a key that leads there
-    record GoesDown (E C : ℕ → List ℕ) : Type 0 where
-      entry : (l x : ℕ) → HasLink (links_at h) l x → IsKeyless l → IsDown IsKeyless h l (E x)
-      chain : (l k : ℕ) (P : List (Entry T)) → HasLink (links_at h) l k → IsKeyless l → IsChain cmp (form_at h) k P → IsDown IsKeyless h l (C k)
-
-    module _ (code : T → ℕ) (E C : ℕ → List ℕ) (says : GoesDown E C) where
-      -- the path below a trie row, where it goes down below that
-      below-by : (left d c l : ℕ) (P : List (Entry T)) → IsTrie cmp code (form_at h) (suc left) d l P
-          → ((k : ℕ) (Q : List (Entry T)) → HasLink (links_at h) l k → IsKeyless l → IsTrie cmp code (form_at h) left (suc d) k Q → IsDown IsKeyless h l (rows_to E C (form_at h) left (suc d) c k)) → IsDown IsKeyless h l (rows_below E C (form_at h) left d c l)
-      unfolding IsTrie
-      below-by left d c l P is rec = by_place (place_of is.entries is.nodes is.links (digit_at c d)) refl (is.places (digit_at c d) (omega arith))
-        where
-          keyless : IsKeyless l
-          keyless = ap (key_of (form_at h)) is.row.row
-
-          below_is : (at : Place) → place_of is.entries is.nodes is.links (digit_at c d) ≡ at → IsDown IsKeyless h l (rows_from_place E (λ k. rows_to E C (form_at h) left (suc d) c k) at) → IsDown IsKeyless h l (rows_below E C (form_at h) left d c l)
-          below_is at same goes =
-              subst (λ p. IsDown IsKeyless h l (rows_from_place E (λ k. rows_to E C (form_at h) left (suc d) c k) p)) (sym (place-in (form_at h) l d is.entries is.nodes (digit_at c d) is.links is.row ∙ same)) goes
-
-          by_place : (at : Place) → place_of is.entries is.nodes is.links (digit_at c d) ≡ at → IsPlace (form_at h) (λ k Q. IsTrie cmp code (form_at h) left (suc d) k Q) at (part cmp code d (digit_at c d) P) → IsDown IsKeyless h l (rows_below E C (form_at h) left d c l)
-          by_place Empty at stands = below_is Empty at (down-end IsKeyless h l)
-          by_place (At x) at stands = below_is (At x) at (says.entry l x (as-linked l x (at-link (form_at h) l d is.entries is.nodes (digit_at c d) x is.links is.row (omega arith) at)) keyless)
-          by_place (Node k) at stands =
-              let linked = as-linked l k (node-link (form_at h) l d is.entries is.nodes (digit_at c d) k is.links is.row (omega arith) at) in
-              below_is (Node k) at (rec k (part cmp code d (digit_at c d) P) linked keyless stands.1)
-
-      -- the path from a trie row on, to which a row leads
-      down-rows : (left d c k l : ℕ) (P : List (Entry T)) → HasLink (links_at h) l k → IsKeyless l → IsTrie cmp code (form_at h) left d k P → IsDown IsKeyless h l (rows_to E C (form_at h) left d c k)
-      unfolding IsTrie
-      down-rows zero d c k l P has keyless is = subst (IsDown IsKeyless h l) (sym (rows-last E C (form_at h) d c k)) (says.chain l k P has keyless is)
-      down-rows (suc left) d c k l P has keyless is =
-          let under = below-by left d c k P is (λ j Q has' keyless' there. down-rows left (suc d) c j k Q has' keyless' there) in
-          subst (IsDown IsKeyless h l) (sym (rows-first E C (form_at h) left d c k)) (down-then IsKeyless h l k (rows_below E C (form_at h) left d c k) has keyless under)
-
-      down-below : (left d c l : ℕ) (P : List (Entry T)) → IsTrie cmp code (form_at h) (suc left) d l P → IsDown IsKeyless h l (rows_below E C (form_at h) left d c l)
-      down-below left d c l P is = below-by left d c l P is (λ k Q has keyless there. down-rows left (suc d) c k l Q has keyless there)
-
-    module _ (key : T) (own : ℕ → List ℕ) (says : (l k : ℕ) (e : Entry T) (next : Option ℕ) → HasLink (links_at h) l k → IsKeyless l → form_at h k ≡ Some (node chain (e.link ∷ option_to_list next)) → IsDown IsKeyless h l (own k)) where
-      -- the path along a chain
-      down-chain : (n l : ℕ) (o : Option ℕ) (es : List (Entry T)) → ((k : ℕ) → o ≡ Some k → HasLink (links_at h) l k) → IsKeyless l → AreChainRows (form_at h) o es → IsDown IsKeyless h l (chain_rows cmp (form_at h) key own n o)
-      unfolding chain_rows AreChainRows
-      down-chain zero l o es has keyless rows = down-end IsKeyless h l
-      down-chain (suc n) l None es has keyless rows = down-end IsKeyless h l
-      down-chain (suc n) l (Some k) [] has keyless rows = absurd cc
-      down-chain (suc n) l (Some k) (e ∷ es) has keyless rows =
-          let at : rows.link ≡ k = cc in
-          let row : form_at h k ≡ Some (node chain (e.link ∷ option_to_list rows.next)) = ap (form_at h) (sym at) ∙ rows.row in
-          let next : next_in (form_at h k) ≡ rows.next = next-row cmp (form_at h) key k e.link rows.next row in
-          let linked : (m : ℕ) → rows.next ≡ Some m → HasLink (links_at h) k m = λ m is. as-linked k m (has-next (form_at h) k e.link m chain (row ∙ ap (λ o. Some (node chain (e.link ∷ option_to_list o))) is)) in
-          let rest = down-chain n k rows.next es linked (ap (key_of (form_at h)) row) rows.rest in
-          by_order (order_in cmp (form_at h) key (entry_in (form_at h k))) _ _
-          (down-then IsKeyless h l k (chain_rows cmp (form_at h) key own n (next_in (form_at h k))) (has k refl) keyless (subst (λ o. IsDown IsKeyless h k (chain_rows cmp (form_at h) key own n o)) (sym next) rest))
-          (says l k e rows.next (has k refl) keyless row)
-        where
-          by_order : (r : Ordering) (xs ys : List ℕ) → IsDown IsKeyless h l xs → IsDown IsKeyless h l ys → IsDown IsKeyless h l (match_ordering r xs ys [])
-          by_order Less xs ys on last = on
-          by_order Equal xs ys on last = last
-          by_order Greater xs ys on last = down-end IsKeyless h l
-
-      chain-down : (n l k : ℕ) (P : List (Entry T)) → HasLink (links_at h) l k → IsKeyless l → IsChain cmp (form_at h) k P → IsDown IsKeyless h l (chain_rows cmp (form_at h) key own n (Some k))
-      chain-down n l k P has keyless is = down-chain n l (Some k) is.entries (λ m e. let at : k ≡ m = cc in subst (HasLink (links_at h) l) at has) keyless is.rows
-
-    edit-goes : (key : T) (most : ℕ) → GoesDown (λ _. []) (λ k. chain_rows cmp (form_at h) key (λ _. []) most (Some k))
-    edit-goes key most = record { entry = λ l x has keyless. down-end IsKeyless h l; chain = chain-down key (λ _. []) (λ l k e next has keyless row. down-end IsKeyless h l) most }
-
-    pair-goes : (key : T) (most : ℕ) → GoesDown (own_entry cmp (form_at h) key) (λ k. chain_rows cmp (form_at h) key (row_and_entry cmp (form_at h) key) most (Some k))
-    pair-goes key most = record { entry = at_entry; chain = chain-down key (row_and_entry cmp (form_at h) key) at_row most }
-      where
-        at_entry : (l x : ℕ) → HasLink (links_at h) l x → IsKeyless l → IsDown IsKeyless h l (own_entry cmp (form_at h) key x)
-        at_entry l x has keyless = by_order (order_of cmp (form_at h) key (key_at (form_at h) x))
-          where
-            by_order : (r : Ordering) → IsDown IsKeyless h l (match_ordering r [] (x ∷ []) [])
-            by_order Less = down-end IsKeyless h l
-            by_order Equal = down-then IsKeyless h l x [] has keyless (down-end IsKeyless h x)
-            by_order Greater = down-end IsKeyless h l
-
-        at_row : (l k : ℕ) (e : Entry T) (next : Option ℕ) → HasLink (links_at h) l k → IsKeyless l → form_at h k ≡ Some (node chain (e.link ∷ option_to_list next)) → IsDown IsKeyless h l (row_and_entry cmp (form_at h) key k)
-        at_row l k e next has keyless row =
-            let entry : entry_in (form_at h k) ≡ Some e.link = ap entry_in row in
-            let pair_down = down-then IsKeyless h k e.link [] (as-linked k e.link (has-first (form_at h) k e.link chain (option_to_list next) row)) (ap (key_of (form_at h)) row) (down-end IsKeyless h e.link) in
-            subst (λ o. IsDown IsKeyless h l (k ∷ option_to_list o)) (sym entry) (down-then IsKeyless h l k (e.link ∷ []) has keyless pair_down)
-
-    module _ (code : T → ℕ) (bits : ℕ) (key : T) (root : ℕ) (M : List (Binding T)) (is : IsMapOf cmp code h (record { root = root; bits = bits }) M) where
-      -- the two paths of a map's root, from the root down
-      edit_tail : List ℕ
-      edit_tail = rows_below (λ _. []) (λ k. chain_rows cmp (form_at h) key (λ _. []) (live_count h) (Some k)) (form_at h) DEEPEST 0 (code_by code bits key) root
-
-      edit-path : edit_path cmp code h bits key root ≡ root ∷ edit_tail
-      unfolding edit_tail
-      edit-path = rows-first (λ _. []) (λ k. chain_rows cmp (form_at h) key (λ _. []) (live_count h) (Some k)) (form_at h) DEEPEST 0 (code_by code bits key) root
-
-      edit-down : IsDown IsKeyless h root edit_tail
-      unfolding edit_tail
-      edit-down = down-below (code_by code bits) _ _ (edit-goes key (live_count h)) DEEPEST 0 (code_by code bits key) root is.entries is.rooted.trie.trie
-
-      pair_tail : List ℕ
-      pair_tail = rows_below (own_entry cmp (form_at h) key) (λ k. chain_rows cmp (form_at h) key (row_and_entry cmp (form_at h) key) (live_count h) (Some k)) (form_at h) DEEPEST 0 (code_by code bits key) root
-
-      pair-path : pair_path cmp code h bits key root ≡ root ∷ pair_tail
-      unfolding pair_tail
-      pair-path = rows-first (own_entry cmp (form_at h) key) (λ k. chain_rows cmp (form_at h) key (row_and_entry cmp (form_at h) key) (live_count h) (Some k)) (form_at h) DEEPEST 0 (code_by code bits key) root
-
-      pair-down : IsDown IsKeyless h root pair_tail
-      unfolding pair_tail
-      pair-down = down-below (code_by code bits) _ _ (pair-goes key (live_count h)) DEEPEST 0 (code_by code bits key) root is.entries is.rooted.trie.trie
+    tail-down : IsDown (IsKeyless h) h root tail
+    tail-down = down-below h cmp (code_by code bits) (p.entry (form_at h)) (p.chain (form_at h) (live_count h)) (p.goes h (live_count h)) DEEPEST 0 c root is.entries is.rooted.trie.trie
 
   -- a link of a row with a key that the root reaches
   pub record InPair (root x : ℕ) : Type 0 where
     pub row : ℕ
     pub under : Reaches (links_at h) root row
     pub linked : HasLink (links_at h) row x
-    pub keyed : IsKeyless row → ⊥
+    pub keyed : IsKeyless h row → ⊥
 
   -- a pair's second link is its value
   pub value-linked : (e : Entry T) (b : Binding T) → IsPair (form_at h) e b → HasLink (links_at h) e.link b.value
@@ -190,34 +91,37 @@ module _ {T : Type 0} (cmp : T → T → Ordering) (code : T → ℕ) where
   pub edits-keep-values : EditsKeepValues cmp code
   edits-keep-values = λ owner old new root bits M key graph is map others.
       let l : ℕ = owned old owner in
-      let tail : List ℕ = pair_tail old cmp code bits key l M map in
-      let down = pair-down old cmp code bits key l M map in
-      let all : WritesOnly owner old new root (l ∷ tail) = subst (WritesOnly owner old new root) (pair-path old cmp code bits key l M map) others in
+      let p = pair-paths cmp (code_by code bits) key in
+      let rest : List ℕ = tail old map p (code_by code bits key) in
+      let down = tail-down old map p (code_by code bits key) in
+      let all : WritesOnly owner old new root (l ∷ rest) = subst (WritesOnly owner old new root) (tail-is old map p (code_by code bits key)) others in
       record {
-        beside = others-beside (IsKeyless old) owner old new root tail graph is down all;
+        beside = others-beside (IsKeyless old) owner old new root rest graph is down all;
         below =
-            All-weaker (λ b. InPair old l b.value) (λ b. KeepsBelow old new b.value) (λ b p. others-below (IsKeyless old) owner old new root tail graph is down all p.row b.value p.under p.linked p.keyed)
+            All-weaker (λ b. InPair old l b.value) (λ b. KeepsBelow old new b.value) (λ b q. others-below (IsKeyless old) owner old new root rest graph is down all q.row b.value q.under q.linked q.keyed)
             M (values-below old cmp code _ M map);
       }
 
   pub cuts-keep-values : CutsKeepValues cmp code
   cuts-keep-values = λ owner old new root bits M key graph graph' is map others.
       let l : ℕ = owned old owner in
-      let tail : List ℕ = edit_tail old cmp code bits key l M map in
-      let down = edit-down old cmp code bits key l M map in
-      let all : WritesOnlyLeft owner old new root (l ∷ tail) = subst (WritesOnlyLeft owner old new root) (edit-path old cmp code bits key l M map) others in
+      let p = edit-paths cmp (code_by code bits) key in
+      let rest : List ℕ = tail old map p (code_by code bits key) in
+      let down = tail-down old map p (code_by code bits key) in
+      let all : WritesOnlyLeft owner old new root (l ∷ rest) = subst (WritesOnlyLeft owner old new root) (tail-is old map p (code_by code bits key)) others in
       All-weaker (λ b. InPair old l b.value) (λ b. IsSome (row_at new b.value) → KeepsBelow old new b.value)
-      (λ b p there. left-below (IsKeyless old) owner old new root tail graph is down graph' all p.row b.value p.under p.linked p.keyed there)
+      (λ b q there. left-below (IsKeyless old) owner old new root rest graph is down graph' all q.row b.value q.under q.linked q.keyed there)
       M (values-below old cmp code _ M map)
 
   pub cuts-keep-held : CutsKeepHeld cmp code
   cuts-keep-held = λ old new root root' bits M key graph graph' is map others.
-      let tail : List ℕ = edit_tail old cmp code bits key root M map in
-      let all : WritesOnlyLeft (by_hold root) old new root' (root ∷ tail) = subst (WritesOnlyLeft (by_hold root) old new root') (edit-path old cmp code bits key root M map) others in
-      left-held (IsKeyless old) old new root root' tail graph graph' is (edit-down old cmp code bits key root M map) all
+      let p = edit-paths cmp (code_by code bits) key in
+      let rest : List ℕ = tail old map p (code_by code bits key) in
+      let all : WritesOnlyLeft (by_hold root) old new root' (root ∷ rest) = subst (WritesOnlyLeft (by_hold root) old new root') (tail-is old map p (code_by code bits key)) others in
+      left-held (IsKeyless old) old new root root' rest graph graph' is (tail-down old map p (code_by code bits key)) all
 
   -- so what is handed in stays: it is held beside the root
-  pub handed-stays : (old new : Heap T) (root root' bits : ℕ) (M : List (Binding T)) (key : T) (l : ℕ) → IsGraph old → HasHolds old (root ∷ l ∷ []) → IsMapOf cmp code old (by_bits bits root) M
+  handed-stays : (old new : Heap T) (root root' bits : ℕ) (M : List (Binding T)) (key : T) (l : ℕ) → IsGraph old → HasHolds old (root ∷ l ∷ []) → IsMapOf cmp code old (by_bits bits root) M
       → WritesOnly (by_hold root) old new root' (pair_path cmp code old bits key root) → KeepsBelow old new l
   handed-stays old new root root' bits M key l graph held map others m way =
       let first : 0 < holds_at old root = omega (arith, held root, count-cons root root (l ∷ []), test_same root root refl) in
@@ -225,7 +129,7 @@ module _ {T : Type 0} (cmp : T → T → Ordering) (code : T → ℕ) where
       (edits-keep-values (by_hold root) old new root' bits M key graph first map others).beside l m beside way
 
   -- or held, where it doesn't reach the parent
-  pub handed-apart : (old new : Heap T) (parent index root' bits : ℕ) (M : List (Binding T)) (key : T) (l : ℕ) → IsGraph old → index < length (links_at old parent) → 0 < holds_at old l → ¬ Reaches (links_at old) l parent
+  handed-apart : (old new : Heap T) (parent index root' bits : ℕ) (M : List (Binding T)) (key : T) (l : ℕ) → IsGraph old → index < length (links_at old parent) → 0 < holds_at old l → ¬ Reaches (links_at old) l parent
       → IsMapOf cmp code old (by_bits bits (child_at old parent index)) M → WritesOnly (by_place parent index) old new root' (pair_path cmp code old bits key (child_at old parent index)) → KeepsBelow old new l
   handed-apart old new parent index root' bits M key l graph inside held off map others m down =
       (edits-keep-values (by_place parent index) old new root' bits M key graph inside map others).beside l m held (way l m down off)
@@ -239,3 +143,233 @@ module _ {T : Type 0} (cmp : T → T → Ordering) (code : T → ℕ) where
       way x y (below k j z has rest) off =
           let other : k ≢ parent = λ same. off (subst (Reaches (links_at old) k) same (here k)) in
           below k j z (subst (λ (b : Bool). 0 < count j (if b then remove (links_at old k) index else links_at old k)) (sym (test k other)) has) (way j z rest (λ up. off (below k j parent has up)))
+
+  -- by any owner
+  pub handed-by : (owner : Owner) (old new : Heap T) (root' bits : ℕ) (M : List (Binding T)) (key : T) (l : ℕ) → IsGraph old → CanOwn old owner → HasHolds old (held_by owner (owned old owner) ++ l ∷ []) → IsApart old owner l
+      → IsMapOf cmp code old (by_bits bits (owned old owner)) M → WritesOnly owner old new root' (pair_path cmp code old bits key (owned old owner)) → KeepsBelow old new l
+  handed-by (by_hold root) old new root' bits M key l graph can held apart map others = handed-stays old new root root' bits M key l graph held map others
+  handed-by (by_place parent child) old new root' bits M key l graph can held apart map others =
+      let was : HasHolds old (l ∷ []) = held in
+      handed-apart old new parent child root' bits M key l graph can.0 (omega (arith, was l, count-cons l l [], test_same l l refl)) apart map others
+
+all-both : {X : Type 0} (P Q : X → Type 0) (xs : List X) → All P xs → All Q xs → All (λ x. P x × Q x) xs
+all-both P Q xs one two = λ i d inside. (one i d inside, two i d inside)
+
+-- what holds by the second list alone holds of all of that
+zip-right : {X Y : Type 0} (P : Y → Type 0) (xs : List X) (ys : List Y) → AllZip (λ x y. P y) xs ys → All P ys
+zip-right P [] [] zip = All-nil P
+zip-right P [] (y ∷ ys) zip = absurd zip
+zip-right P (x ∷ xs) [] zip = absurd zip
+zip-right P (x ∷ xs) (y ∷ ys) zip = All-cons P y ys zip.0 (zip-right P xs ys zip.1)
+
+-- what goes down from each row of a trie holds of its entries
+module _ {K : Type 0} (F : Forms K) (P : ℕ → Type 0) (next : (l m : ℕ) → P l → key_at F l ≡ None → HasLink (links_in F) l m → P m) where
+  rows-down : (es : List (Entry K)) (o : Option ℕ) → ((m : ℕ) → o ≡ Some m → P m) → AreChainRows F o es → All (λ e. P e.link) es
+  unfolding AreChainRows
+  rows-down [] o down rows = All-nil (λ e. P e.link)
+  rows-down (e ∷ es) o down rows =
+      let keyless : key_at F rows.link ≡ None = ap (key_of F) rows.row in
+      let at : P rows.link = down rows.link rows.here in
+      All-cons (λ e. P e.link) e es (next rows.link e.link at keyless (has-first F rows.link e.link chain (option_to_list rows.next) rows.row))
+      (rows-down es rows.next (λ m is. next rows.link m at keyless (has-next F rows.link e.link m chain (rows.row ∙ ap (λ n. Some (node chain (e.link ∷ option_to_list n))) is))) rows.rest)
+
+  module _ (cmp : K → K → Ordering) (code : K → ℕ) where
+    pub trie-down : (left d l : ℕ) (E : List (Entry K)) → P l → IsTrie cmp code F left d l E → All (λ e. P e.link) E
+    unfolding IsTrie
+    trie-down zero d l E at is = all-same (λ e. P e.link) is.entries E is.same (rows-down is.entries (Some l) (λ m same. subst P (let e : Some l ≡ Some m = same in cc) at) is.rows)
+    trie-down (suc left) d l E at is =
+        all-parts (λ e. P e.link) (λ e. digit_at (code e.key) d) (λ e. omega arith) E
+        (λ p small. by_place p small (λ k under. trie-down left (suc d) k (part cmp code d p E) under) (place_of is.entries is.nodes is.links p) refl (is.places p small))
+      where
+        keyless : key_at F l ≡ None
+        keyless = ap (key_of F) is.row.row
+
+        by_place : (p : ℕ) → p < 32 → ((k : ℕ) → P k → IsTrie cmp code F left (suc d) k (part cmp code d p E) → All (λ e. P e.link) (part cmp code d p E))
+            → (place : Place) → place_of is.entries is.nodes is.links p ≡ place → IsPlace F (λ k Q. IsTrie cmp code F left (suc d) k Q) place (part cmp code d p E) → All (λ e. P e.link) (part cmp code d p E)
+        by_place p small deeper Empty is_at none = subst (All (λ e. P e.link)) (sym none) (All-nil (λ e. P e.link))
+        by_place p small deeper (At x) is_at one =
+            subst (All (λ e. P e.link)) (sym one.1) (All-cons (λ e. P e.link) (entry one.0 x) [] (next l x at keyless (at-link F l d is.entries is.nodes p x is.links is.row small is_at)) (All-nil (λ e. P e.link)))
+        by_place p small deeper (Node k) is_at more = deeper k (next l k at keyless (node-link F l d is.entries is.nodes p k is.links is.row small is_at)) more.1
+
+    pub trie-keyless : (left d l : ℕ) (E : List (Entry K)) → IsTrie cmp code F (suc left) d l E → key_at F l ≡ None
+    unfolding IsTrie
+    trie-keyless left d l E is = ap (key_of F) is.row.row
+
+module _ {T : Type 0} (cmp : T → T → Ordering) (code : T → ℕ) (o : IsTotalOrder cmp) (old new : Heap T) (r : Root) (M : List (Binding T)) (key : T) (link : ℕ) (graph : IsGraph old) (map : IsMapOf cmp code old r M) (p : IsPairOfKey cmp code old r key link) where
+  abbrev F : Forms T
+  F = form_at old
+
+  abbrev G : Forms T
+  G = form_at new
+
+  once : count_by (has_key cmp key) map.entries ≤ 1
+  once = map.rooted.trie.distinct.once key
+
+  -- the pair of the key among the map's entries
+  found : (e : Entry T) × (find (has_key cmp key) map.entries ≡ Some e) × (e.link ≡ link)
+  found =
+      let same = has-one-set cmp (code_by code r.bits) o F r.root map.entries p.entries map.rooted.trie p.rooted.trie in
+      found-link cmp key map.entries link (ap (option_map (λ (e : Entry T). e.link)) (same-find (has_key cmp key) map.entries p.entries same once) ∙ p.there)
+
+  bound : (b : Binding T) × (find (binds cmp key) M ≡ Some b) × IsPair F found.0 b
+  bound = zip-found cmp F key map.entries M found.0 map.pairs found.1
+
+  had_key : key_at F link ≡ Some found.0.key
+  had_key = ap (key_at F) (sym found.2) ∙ pair-key F found.0 bound.0 bound.2
+
+  pair-row : F link ≡ Some (node pair (bound.2.key_cell ∷ bound.0.value ∷ []))
+  pair-row = ap F (sym found.2) ∙ bound.2.row
+
+  root-keyless : key_at F r.root ≡ None
+  root-keyless = trie-keyless F (λ _. Unit {0}) (λ l m at keyless has. tt) cmp (code_by code r.bits) DEEPEST 0 r.root map.entries map.rooted.trie.trie
+
+  not-link : (m : ℕ) → key_at F m ≡ None → m ≢ link
+  not-link m keyless same = let bad : None ≡ Some found.0.key = sym keyless ∙ ap (key_at F) same ∙ had_key in cc
+
+  -- an entry lies below the root
+  abbrev Under : Entry T → Type 0
+  Under e = Reaches (links_at old) r.root e.link
+
+  all-under : All Under map.entries
+  all-under =
+      All-weaker (λ e. Reaches (links_in F) r.root e.link) Under (λ e way. Reaches-by (links_in F) (links_at old) (λ l. sym (links-form old l)) r.root e.link way)
+      map.entries (canon-reach cmp (code_by code r.bits) F r.root map.entries map.rooted.trie)
+
+  -- and doesn't lead back to it
+  off-root : ¬ Reaches (links_at old) link r.root
+  off-root up =
+      let under : Reaches (links_at old) r.root link = subst (Reaches (links_at old) r.root) found.2 (all-found Under (has_key cmp key) map.entries found.0 all-under found.1) in
+      elim (Reaches-last (links_at old) r.root link under) as (λ _. ⊥) [
+        | inl same ↦ not-link r.root root-keyless same
+        | inr last ↦ let acyclic = IsGraph-acyclic old graph in acyclic last.0 link last.2 (Reaches-trans (links_at old) link r.root last.0 up last.1)
+      ]
+
+  -- beside an entry there are others, which the root reaches around it
+  abbrev IsAround : ℕ → ℕ → Type 0
+  IsAround x m = (m ≡ x) ⊎ ReachesAround (links_at old) x r.root m
+
+  all-around : (x : ℕ) (k : T) → key_at F x ≡ Some k → All (λ e. IsAround x e.link) map.entries
+  all-around x k keyed = trie-down F (IsAround x) next cmp (code_by code r.bits) LEVELS 0 r.root map.entries (inr (at_once r.root (off r.root root-keyless))) map.rooted.trie.trie
+    where
+      off : (m : ℕ) → key_at F m ≡ None → m ≢ x
+      off m keyless same = let bad : None ≡ Some k = sym keyless ∙ ap (key_at F) same ∙ keyed in cc
+
+      next : (l m : ℕ) → IsAround x l → key_at F l ≡ None → HasLink (links_in F) l m → IsAround x m
+      next l m (inl at) keyless has = absurd (off l keyless at)
+      next l m (inr way) keyless has = elim (cases_eq m x) as (λ _. IsAround x m) [
+        | inl at ↦ inl at
+        | inr other ↦ inr (ReachesAround-then (links_at old) x r.root l m way (subst (λ ks. 0 < count m ks) (links-form old l) has) other)
+      ]
+
+  -- the pair of another key is another row
+  apart-link : (k : T) (x : ℕ) → (cmp key k ≡ Equal → ⊥) → key_at F x ≡ Some k → x ≢ link
+  apart-link k x apart named at =
+      let same : k ≡ found.0.key = (let both : Some k ≡ Some found.0.key = sym named ∙ ap (key_at F) at ∙ had_key in cc) in
+      apart (ap (cmp key) same ∙ find-has cmp key map.entries found.0 found.1)
+
+  -- where only the way from the root leads to the pair, no other pair's value does
+  module _ (l : ℕ) (held : 0 < holds_at old l) (way : Reaches (links_at old) l r.root) (sole : OwnsDown old r.root link) (e : Entry T) (b : Binding T) (under : Under e) (is : IsPair F e b) (other : e.link ≢ link) where
+    -- no path of rows with one owner each leads from the other pair to this one, for the root reaches this one around that
+    no-path : ¬ OwnsDown old e.link link
+    no-path path =
+        let acyclic = IsGraph-acyclic old graph in
+        let off : ¬ Reaches (links_at old) e.link r.root = λ up. elim (Reaches-last (links_at old) r.root e.link under) as (λ _. ⊥) [
+          | inl same ↦ let bad : None ≡ Some e.key = sym root-keyless ∙ ap (key_at F) same ∙ pair-key F e b is in cc
+          | inr last ↦ acyclic last.0 e.link last.2 (Reaches-trans (links_at old) e.link r.root last.0 up last.1)
+        ] in
+        elim (all-found (λ d. IsAround e.link d.link) (has_key cmp key) map.entries found.0 (all-around e.link e.key (pair-key F e b is)) found.1) as (λ _. ⊥) [
+          | inl at ↦ other (sym at ∙ found.2)
+          | inr round ↦
+              let from_l = ReachesAround-trans (links_at old) e.link l r.root found.0.link (Reaches-avoids (links_at old) e.link l r.root way off) round in
+              around-path (holds_at old) (owners_at old) (links_at old) (IsOwners-heap old) e.link link l path held (subst (ReachesAround (links_at old) e.link l) found.2 from_l)
+        ]
+
+    off-path : (x : ℕ) → OwnsDown old r.root x → OwnsDown old x link → ¬ Reaches (links_at old) b.value x
+    off-path x path_start rest up = let acyclic = IsGraph-acyclic old graph in acyclic e.link b.value (value-linked old e b is) (Reaches-trans (links_at old) b.value r.root e.link up under)
+    off-path x (path_then p k path has one) rest up =
+        let more : OwnsDown old p link = sole-before (owners_at old) (links_at old) p k link has one rest in
+        elim (Reaches-last (links_at old) b.value k up) as (λ _. ⊥) [
+          | inl same ↦ no-path (subst (λ q. OwnsDown old q link) ((IsOwners-heap old).only e.link p k (subst (HasLink (links_at old) e.link) same (value-linked old e b is)) has one) more)
+          | inr last ↦ off-path p path more (subst (Reaches (links_at old) b.value) ((IsOwners-heap old).only p last.0 k has last.2 one) last.1)
+        ]
+
+    pub off-pair : ¬ Reaches (links_at old) b.value link
+    off-pair = off-path link sole path_start
+
+  module _ {l c n : ℕ} {spent gained : List ℕ} (change : Changes link old new spent gained c n) (held : count l spent < holds_at old l) (way : Reaches (links_at old) l r.root) where
+    same-row : (m : ℕ) → ReachesAround (links_at old) link r.root m → row_at new m ≡ row_at old m
+    same-row m around = change.apart.kept l m held (ReachesAround-trans (links_at old) link l r.root m (Reaches-avoids (links_at old) link l r.root way off-root) around)
+
+    abbrev ValueStays : Binding T → Type 0
+    ValueStays b = (cmp key b.key ≡ Equal → ⊥) → KeepsBelow old new b.value
+
+    -- all below the value of each other key
+    pub values-kept : OwnsDown old r.root link → All ValueStays M
+    values-kept sole =
+        let Around = λ (e : Entry T). IsAround link e.link in
+        let both = all-both Under Around map.entries all-under (all-around link found.0.key had_key) in
+        zip-right ValueStays map.entries M
+        (zip-as (λ e b. (Under e × Around e) × IsPair F e b) (λ e b. ValueStays b) each map.entries M (zip-all (λ e. Under e × Around e) (IsPair F) map.entries M both map.pairs))
+      where
+        each : (e : Entry T) (b : Binding T) → (Under e × IsAround link e.link) × IsPair F e b → ValueStays b
+        each e b ((under, around), is) apart m on =
+            let other : e.link ≢ link = apart-link e.key e.link (λ same. apart (ap (cmp key) is.key ∙ same)) (pair-key F e b is) in
+            let off = off-pair l (omega (arith, held)) way sole e b under is other in
+            let round : ReachesAround (links_at old) link r.root e.link = elim around as (λ _. ReachesAround (links_at old) link r.root e.link) [
+              | inl at ↦ absurd (other at)
+              | inr up ↦ up
+            ] in
+            let to_value = ReachesAround-then (links_at old) link r.root e.link b.value round (value-linked old e b is) (λ same. off (subst (Reaches (links_at old) b.value) same (here b.value))) in
+            same-row m (ReachesAround-trans (links_at old) link r.root b.value m to_value (Reaches-around (links_at old) link b.value m on off))
+
+    module _ (value : ℕ) (head : head_of (row_at new link) ≡ head_of (row_at old link)) (links : links_at new link ≡ child_at old link 0 ∷ value ∷ []) (keys : key_at G link ≡ key_at F link) where
+      around : SameAround F G r.root link
+      around = record {
+        key = found.0.key;
+        is_pair = ap head_of pair-row;
+        had_key = had_key;
+        has_key = keys ∙ had_key;
+        same = λ m round. ap (option_map form_of) (same-row m (ReachesAround-same (links_in F) (links_at old) link r.root m round (λ k on. sym (links-form old k))));
+      }
+
+      -- the entries of the new map: the pair, and the others
+      abbrev E : List (Entry T)
+      E = found.0 ∷ others cmp key map.entries
+
+      canon : IsCanon cmp (code_by code r.bits) G r.root E
+      canon =
+          takes-any-order cmp (code_by code r.bits) o G r.root map.entries E (same-sym E map.entries (one-out (has_key cmp key) map.entries found.0 once found.1))
+          (canon-around F G r.root link around cmp (code_by code r.bits) map.entries map.rooted.trie)
+
+      rows-same : All (λ d. row_at new d.link ≡ row_at old d.link) (others cmp key map.entries)
+      rows-same =
+          let Named = IsEntry F in
+          let Around = λ (d : Entry T). IsAround link d.link in
+          all-others cmp key (λ d. Named d × Around d) (λ d. row_at new d.link ≡ row_at old d.link) each map.entries
+          (all-both Named Around map.entries (names-keys cmp (code_by code r.bits) F r.root map.entries map.rooted.trie) (all-around link found.0.key had_key))
+        where
+          each : (d : Entry T) → (cmp key d.key ≡ Equal → ⊥) → IsEntry F d × IsAround link d.link → row_at new d.link ≡ row_at old d.link
+          each d apart (named, inl at) = absurd (apart-link d.key d.link apart named at)
+          each d apart (named, inr way) = same-row d.link way
+
+      pair-new : IsPair G found.0 (binding (kept_key cmp key M) value)
+      pair-new =
+          let row : G link ≡ Some (node pair (child_at old link 0 ∷ value ∷ [])) = row-form (row_at new link) (row_at old link) pair (bound.2.key_cell ∷ bound.0.value ∷ []) (child_at old link 0 ∷ value ∷ []) head links pair-row in
+          let kept : kept_key cmp key M ≡ found.0.key = ap (λ b. unwrap_or (option_map (λ (b : Binding T). b.key) b) key) bound.1 ∙ bound.2.key in
+          pair-by G found.0.link found.0.key (binding (kept_key cmp key M) value) (child_at old link 0) value (ap G found.2 ∙ row) (ap (key_at G) found.2 ∙ (keys ∙ had_key)) refl kept
+
+      pub map-bound : IsMapOf cmp code new r (bind cmp M key value)
+      map-bound = record {
+        entries = E;
+        rooted = record { bits = map.rooted.bits; trie = canon };
+        pairs = (
+          pair-new,
+          pairs-left cmp old new key map.entries M map.pairs rows-same (All-tail (IsEntry G) found.0 (others cmp key map.entries) (names-keys cmp (code_by code r.bits) G r.root E canon)),
+        );
+      }
+
+pub pair-changes-bind : {T : Type 0} (cmp : T → T → Ordering) (code : T → ℕ) → IsTotalOrder cmp → PairChangesBind cmp code
+pair-changes-bind cmp code o = λ old new r M key link value l spent gained c n graph map p change held way head links keys. map-bound cmp code o old new r M key link graph map p change held way value head links keys
+
+pub pair-changes-keep-values : {T : Type 0} (cmp : T → T → Ordering) (code : T → ℕ) → IsTotalOrder cmp → PairChangesKeepValues cmp code
+pair-changes-keep-values cmp code o = λ old new r M key link l spent gained c n graph map p sole change held way. values-kept cmp code o old new r M key link graph map p change held way sole

@@ -12,18 +12,15 @@ use Rattle.node_heap.specs.Links.{Reaches, here}
 use Rattle.node_heap.specs.Forms.{Forms, Form, cell, node, pair, value_of, links_in, form_of}
 use Rattle.node_heap.specs.Heap.{Heap, row_at, form_at}
 use Rattle.node_heap.specs.Owner.{Owner, owned}
-use Rattle.node_heap.proofs.Reach.{Reaches-then}
+use Rattle.node_heap.proofs.CallerLemmas.{Reaches-then, IsOwned}
 use Rattle.champ_chain.specs.Entry.{Entry, entry, IsEntry, SameSet, same_first, same_turned, same_through, has_key, key_at, key_of, link_with, others}
-use Rattle.champ_chain.proofs.SetLemmas.{same-refl, count-cons}
+use Rattle.champ_chain.proofs.CallerLemmas.{same-refl, count-cons}
 use Rattle.champ_trie.specs.Trie.{IsCanon, code_by}
-use Rattle.champ_trie.proofs.StayLemmas.{forms-below, canon-stays, canon-reach, has-first}
-use Rattle.champ_trie.proofs.RowLemmas.{trie-moved}
+use Rattle.champ_trie.proofs.CallerLemmas.{forms-below, canon-stays, canon-reach, has-first, trie-moved}
 use Rattle.champ_kinds.specs.Binding.{Binding, binds, unbind}
 use Rattle.champ_kinds.specs.Kinds.{IsPair, HasEntries, IsMapOf}
-use Rattle.champ_kinds.proofs.ZipLemmas.{zip-as, zip-all}
-use Rattle.champ_kinds.proofs.PairLemmas.{others-pairs}
+use Rattle.champ_kinds.proofs.CallerLemmas.{zip-as, zip-all, others-pairs}
 use Rattle.edit_trie.specs.Edit.{by_bits}
-use Rattle.node_heap.proofs.OwnedRows.{IsOwned}
 
 -- what passes a test, where one at most does, and then the others are all
 module _ {X : Type 0} (p : X → Bool) where
@@ -50,6 +47,15 @@ module _ {X : Type 0} (p : X → Bool) where
           let later = rec (omega (arith, once, count-cons p y ys)) (ap (λ t. cond t (Some y) (find p ys)) (sym is) ∙ found) in
           let rest : filter (λ z. not (p z)) (y ∷ ys) ≡ y ∷ filter (λ z. not (p z)) ys = ap (λ t. cond (not t) (y ∷ filter (λ z. not (p z)) ys) (filter (λ z. not (p z)) ys)) is in
           subst (λ zs. SameSet (x ∷ zs) (y ∷ ys)) (sym rest) (same_through (x ∷ y ∷ filter (λ z. not (p z)) ys) (y ∷ x ∷ filter (λ z. not (p z)) ys) (y ∷ ys) (same_turned x y (filter (λ z. not (p z)) ys)) (same_first y (x ∷ filter (λ z. not (p z)) ys) ys later))
+
+-- what holds of all holds of what is found
+pub all-found : {X : Type 0} (P : X → Type 0) (p : X → Bool) (xs : List X) (x : X) → All P xs → find p xs ≡ Some x → P x
+all-found P p [] x all found = absurd cc
+all-found P p (y ∷ ys) x all found = by_test (p y) refl (all-found P p ys x (All-tail P y ys all))
+  where
+    by_test : (t : Bool) → p y ≡ t → (find p ys ≡ Some x → P x) → P x
+    by_test true is rec = let same : y ≡ x = (let first : Some y ≡ Some x = ap (λ t. cond t (Some y) (find p ys)) (sym is) ∙ found in cc) in subst P same (All-head P y ys all)
+    by_test false is rec = rec (ap (λ t. cond t (Some y) (find p ys)) (sym is) ∙ found)
 
 module _ {K : Type 0} where
   -- a form with a value is a cell of it

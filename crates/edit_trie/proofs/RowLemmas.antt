@@ -1,15 +1,16 @@
 -- Rows of a heap by their heads and links, and entries by their rows.
 use Rattle.std.proofs.Common.{◌≡◌, ◌≢◌, ℕ, ◌<◌, List, [], ◌∷◌, length, get_or, refl, ap, sym, ◌∙◌, arith, Option, Some, None, IsSome, option_map}
 use Rattle.node_heap.specs.Forms.{Forms, Form, Row, Kind, cell, node, leaf, inner, trie, chain, pair, state, links_of, head_of, value_of, form_of, kind_of, is_node}
-use Rattle.node_heap.specs.Heap.{Heap, form_at, links_at}
+use Rattle.node_heap.specs.Heap.{Heap, row_at, form_at, links_at}
 use Rattle.node_heap.specs.Reads.{IsTrieForm}
 use Rattle.node_heap.specs.declared.row.Head.{Head}
 use Rattle.node_heap.specs.InPlace.{child_at}
 use Rattle.champ_chain.specs.Entry.{key_at, key_of, first_value}
-use Rattle.champ_chain.proofs.FrameLemmas.{links-form}
+use Rattle.champ_chain.proofs.CallerLemmas.{links-form, key-live}
 use Rattle.champ_trie.specs.Trie.{IsRow}
-use Rattle.champ_trie.proofs.PlaceLemmas.{entry-in, node-in}
-use Rattle.edit_trie.specs.Spot.{IsSpot}
+use Rattle.champ_trie.specs.declared.place.Place.{Place}
+use Rattle.champ_trie.proofs.CallerLemmas.{Changes, entry-in, node-in}
+use Rattle.edit_trie.specs.Spot.{IsSpot, PutsAt}
 use Rattle.edit_trie.specs.declared.row.Spot.{Spot}
 use Rattle.edit_trie.specs.declared.row.Spot.TheVariants.{Entry as EntryAt, Node as NodeAt}
 
@@ -62,6 +63,17 @@ module _ {T : Type 0} where
   row-made (Some (cell x)) head ks is links = cc
   row-made (Some (node h js)) head ks is links = let same : h ≡ head = cc in ap (λ g. Some (node (kind_of g) js)) same ∙ ap (λ js. Some (node (kind_of head) js)) links
 
+  -- a row of these sets and links has what they have
+  pub puts-row : (new : Heap T) (row d e n p : ℕ) (ls : List ℕ) {e' n' : ℕ} {ls' : List ℕ} {place : Place} {head : Head} → Changes e n ls e' n' ls' p place → head_of (row_at new row) ≡ Some head → kind_of head ≡ trie d e' n' → links_of (row_at new row) ≡ ls' → PutsAt (form_at new) row d e n ls p place
+  puts-row new row d e n p ls {e' = e'} {n' = n'} {ls' = ls'} {head = head} changed is kind links = record {
+    entries = e';
+    nodes = n';
+    links = ls';
+    row_is = record { row = row-made (row_at new row) head ls' is links ∙ ap (λ k. Some (node k ls')) kind; sets = changed.sets };
+    puts = changed.here;
+    others = changed.others;
+  }
+
   -- a row with the head of a node is one
   pub node-head : (r s : Option (Row T)) → head_of r ≡ head_of s → is_node s ≡ 1 → is_node r ≡ 1
   node-head None None heads is = cc
@@ -82,6 +94,23 @@ module _ {T : Type 0} where
   pub value-live : (r : Option (Row T)) (z : T) → value_of (option_map form_of r) ≡ Some z → IsSome r
   value-live None z is = absurd cc
   value-live (Some x) z is = refl
+
+  -- what has a value has it as its key
+  value-key : (F : Forms T) (f : Option (Form T)) (z : T) → value_of f ≡ Some z → key_of F f ≡ Some z
+  value-key F None z is = absurd cc
+  value-key F (Some (cell x)) z is = is
+  value-key F (Some (node k ls)) z is = absurd cc
+
+  -- keys, and what names one, stay where a row is written that has none
+  module _ (old new : Heap T) (r : ℕ) (keyless : key_at (form_at old) r ≡ None) (others : (m : ℕ) → m ≢ r → IsSome (row_at old m) → row_at new m ≡ row_at old m) where
+    pub keyed-row : (s : ℕ) (z : T) → key_at (form_at old) s ≡ Some z → row_at new s ≡ row_at old s
+    keyed-row s z has = others s (λ at. let bad : None ≡ Some z = sym keyless ∙ sym (ap (key_at (form_at old)) at) ∙ has in cc) (key-live old s z has)
+
+    pub cells-kept : (s : ℕ) (z : T) → value_of (form_at old s) ≡ Some z → value_of (form_at new s) ≡ Some z
+    cells-kept s z value = ap value_of (ap (option_map form_of) (keyed-row s z (value-key (form_at old) (form_at old s) z value))) ∙ value
+
+    pub keys-stay : (x : ℕ) (k : T) → key_at (form_at old) x ≡ Some k → key_at (form_at new) x ≡ Some k
+    keys-stay x k keyed = key-moved (form_at old) (form_at new) x x k (ap (option_map form_of) (keyed-row x k keyed)) cells-kept keyed
 
   module _ (h : Heap T) (row d e n : ℕ) (ls : List ℕ) (is : IsRow (form_at h) row d e n ls) where
     pub row-links : links_at h row ≡ ls

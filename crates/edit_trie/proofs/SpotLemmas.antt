@@ -5,8 +5,7 @@ use Rattle.std.proofs.lemmas.List.{get_or-set_same, get_or-set_other, length-set
 use Rattle.champ_trie.specs.Bits.{has, rank}
 use Rattle.champ_trie.specs.Trie.{AreSets, place_of, links_at_place}
 use Rattle.champ_trie.specs.declared.place.Place.TheVariants.{Entry as At, Node}
-use Rattle.champ_trie.proofs.BitLemmas.{rank-lt}
-use Rattle.champ_trie.proofs.PlaceLemmas.{Changes, place-entry, place-node, place-empty, entry-in, node-in}
+use Rattle.champ_trie.proofs.CallerLemmas.{rank-lt, Changes, place-entry, place-node, place-empty, entry-in, node-in}
 
 -- two positions with something have different ranks
 rank-apart : (s p q : ℕ) → q ≢ p → has s p ≡ true → has s q ≡ true → rank s q ≢ rank s p

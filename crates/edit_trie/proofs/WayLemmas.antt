@@ -4,31 +4,27 @@ use Rattle.std.specs.Prelude.{count_by, option_to_list, nat_eq}
 use Rattle.std.specs.Option.{is_some}
 use Rattle.std.specs.List.{All}
 use Rattle.std.specs.declared.cmp.Ordering.{Ordering}
-use Rattle.std.proofs.lemmas.Bool.{cases_eq, cases_lt, cases_Bool}
+use Rattle.std.proofs.lemmas.Bool.{cases_eq, cases_lt, false_from_ne_true}
 use Rattle.std.proofs.lemmas.List.{get_or-set_other}
 use Rattle.std.proofs.lemmas.List.Elements.{All-nil, All-cons, All-head, All-tail, All-filter}
 use Rattle.std.proofs.lemmas.List.Sums.{sum_by-cons}
 use Rattle.elem_core.specs.Codes.{digit_at}
-use Rattle.node_heap.specs.Links.{Links, count, HasLink, SameBelow, Reaches, here, below}
+use Rattle.node_heap.specs.Links.{Links, count, HasLink, Reaches, here, below}
 use Rattle.node_heap.specs.Forms.{Forms, Row, node, chain, links_of, links_in}
-use Rattle.node_heap.specs.Heap.{Heap, row_at, links_at, live_count, IsGraph}
-use Rattle.node_heap.proofs.Counts.{count-cons, test_other, sum_by-fewer}
-use Rattle.node_heap.proofs.Reach.{SameBelow-link}
-use Rattle.champ_chain.specs.Entry.{Entry, entry}
+use Rattle.node_heap.specs.Heap.{Heap, row_at, links_at, live_count, IsGraph, form_at}
+use Rattle.node_heap.proofs.CallerLemmas.{count-cons, test_other, sum_by-fewer, IsDown, down-end, down-then}
+use Rattle.champ_chain.specs.Entry.{Entry, entry, key_at, key_of}
 use Rattle.champ_chain.specs.Chain.{AreChainRows}
-use Rattle.champ_chain.proofs.SetLemmas.{same-length, same-sym}
+use Rattle.champ_chain.proofs.CallerLemmas.{same-length, same-sym}
 use Rattle.champ_trie.specs.Bits.{has, rank}
 use Rattle.champ_trie.specs.Trie.{IsTrie, IsRow, AreSets, IsPlace, part, place_of}
 use Rattle.champ_trie.specs.declared.place.Place.TheVariants.{Entry as At, Node}
-use Rattle.champ_trie.proofs.BitLemmas.{rank-onto}
-use Rattle.champ_trie.proofs.PlaceLemmas.{place-entry, place-node}
-use Rattle.champ_trie.proofs.StayLemmas.{all-same, has-next}
-use Rattle.champ_trie.proofs.WithLemmas.{part-here, part-elsewhere}
+use Rattle.champ_trie.proofs.CallerLemmas.{rank-onto, place-entry, place-node, all-same, part-here, part-elsewhere, has-next}
 use Rattle.edit_trie.specs.Path.{rows_to, rows_from_place, rows_on, way_rows, place_in, next_in}
-use Rattle.edit_trie.proofs.PathLemmas.{BeginsThere, SaysTheSame, rows_below, rows-first, rows-last, place-in}
-use Rattle.edit_trie.proofs.DownLemmas.{none-live}
-use Rattle.edit_trie.proofs.FrontLemmas.{count-later, count-here}
-use Rattle.edit_trie.proofs.ChainPutLemmas.{one-of}
+use Rattle.edit_trie.proofs.PathLemmas.{Paths, GoesDown, IsKeyless, next-linked, SaysTheSame, rows_below, rows-first, rows-last, place-in, next-row, Stays}
+use Rattle.edit_trie.proofs.StepLemmas.{none-live}
+use Rattle.edit_trie.proofs.ChainLemmas.{count-later, count-here}
+use Rattle.edit_trie.proofs.ChainEdits.{one-of}
 
 -- a list of which a place was emptied
 empty-there : {X : Type 0} (xs : List (Option X)) (k : ℕ) → get_or (set xs k None) k None ≡ None
@@ -105,10 +101,7 @@ link-placed e n ls sets k some =
           (p.0, p.1, inl (place-entry e n ls p.0 p.2 ∙ ap (λ i. At (get_or ls i 0)) p.3 ∙ ap At at.2))
       | inr high ↦
           let p = rank-onto n 32 (at.0 - rank e 32) (omega (arith, high, at.1, sets.count)) in
-          let off : has e p.0 ≡ false = elim (cases_Bool (has e p.0)) as (λ _. has e p.0 ≡ false) [
-            | inl both ↦ absurd (let bad = sym p.2 ∙ sets.apart p.0 p.1 both in cc)
-            | inr none ↦ none
-          ] in
+          let off : has e p.0 ≡ false = false_from_ne_true (has e p.0) (λ both. let bad = sym p.2 ∙ sets.apart p.0 p.1 both in cc) in
           let index : rank e 32 + rank n p.0 ≡ at.0 = omega (arith, p.3, high) in
           (p.0, p.1, inr (place-node e n ls p.0 off p.2 ∙ ap (λ i. Node (get_or ls i 0)) index ∙ ap Node at.2))
     ]
@@ -123,10 +116,6 @@ module _ {K : Type 0} where
   unfolding rows_on
   on-row F n l = refl
 
-  next-is : (F : Forms K) (l x : ℕ) (next : Option ℕ) → F l ≡ Some (node chain (x ∷ option_to_list next)) → next_in (F l) ≡ next
-  next-is F l x None is = ap next_in is
-  next-is F l x (Some m) is = ap next_in is
-
   -- a chain has as many rows as entries
   pub on-length : (F : Forms K) (n : ℕ) (o : Option ℕ) (es : List (Entry K)) → length es ≤ n → AreChainRows F o es → length (rows_on F n o) ≡ length es
   unfolding AreChainRows
@@ -138,39 +127,50 @@ module _ {K : Type 0} where
       let at : rows.link ≡ l = cc in
       let row : F l ≡ Some (node chain (e.link ∷ option_to_list rows.next)) = ap F (sym at) ∙ rows.row in
       let rest : length (rows_on F n rows.next) ≡ length es = on-length F n rows.next es (omega (arith, few)) rows.rest in
-      omega (arith, rest, ap length (on-row F n l), ap (λ b. length (rows_on F n b)) (next-is F l e.link rows.next row))
+      omega (arith, rest, ap length (on-row F n l), ap (λ b. length (rows_on F n b)) (next-row F l e.link rows.next row))
 
-  -- the rows of a chain are the same where all below the first is
-  on-stays : (F G : Forms K) (n : ℕ) (o : Option ℕ) (es : List (Entry K)) → ((m : ℕ) → o ≡ Some m → SameBelow (links_in F) F G m) → AreChainRows F o es → rows_on G n o ≡ rows_on F n o
+  -- the rows of a chain are the same where they stay
+  on-stays : (F G : Forms K) {S : ℕ → Type 0} → Stays F G S → (n : ℕ) (o : Option ℕ) (es : List (Entry K)) → ((m : ℕ) → o ≡ Some m → S m) → AreChainRows F o es → rows_on G n o ≡ rows_on F n o
   unfolding rows_on AreChainRows
-  on-stays F G zero o es same rows = refl
-  on-stays F G (suc n) None es same rows = refl
-  on-stays F G (suc n) (Some l) [] same rows = absurd cc
-  on-stays F G (suc n) (Some l) (e ∷ es) same rows =
+  on-stays F G stays zero o es same rows = refl
+  on-stays F G stays (suc n) None es same rows = refl
+  on-stays F G stays (suc n) (Some l) [] same rows = absurd cc
+  on-stays F G stays (suc n) (Some l) (e ∷ es) same rows =
       let at : rows.link ≡ l = cc in
       let row : F l ≡ Some (node chain (e.link ∷ option_to_list rows.next)) = ap F (sym at) ∙ rows.row in
-      let kept = same l refl in
-      let moved : G l ≡ F l = kept l (here l) in
-      let rest : rows_on G n rows.next ≡ rows_on F n rows.next = on-stays F G n rows.next es (next-same rows.next row kept) rows.rest in
-      ap (λ ks. l ∷ ks) (ap (rows_on G n) (next-is G l e.link rows.next (moved ∙ row)) ∙ rest ∙ sym (ap (rows_on F n) (next-is F l e.link rows.next row)))
-    where
-      next-same : (next : Option ℕ) → F l ≡ Some (node chain (e.link ∷ option_to_list next)) → SameBelow (links_in F) F G l → (m : ℕ) → next ≡ Some m → SameBelow (links_in F) F G m
-      next-same None row kept m is = absurd cc
-      next-same (Some j) row kept m is = let same : j ≡ m = cc in subst (SameBelow (links_in F) F G) same (SameBelow-link (links_in F) F G l j (has-next F l e.link j chain row) kept)
+      let keyless : key_at F l ≡ None = ap (key_of F) row in
+      let moved : G l ≡ F l = stays.row l (same l refl) keyless in
+      let linked = λ (m : ℕ) (is : rows.next ≡ Some m). has-next F l e.link m chain (row ∙ ap (λ (p : Option ℕ). Some (node chain (e.link ∷ option_to_list p))) is) in
+      let rest : rows_on G n rows.next ≡ rows_on F n rows.next = on-stays F G stays n rows.next es (λ m is. stays.next l m (same l refl) keyless (linked m is)) rows.rest in
+      ap (λ ks. l ∷ ks) (ap (rows_on G n) (next-row G l e.link rows.next (moved ∙ row)) ∙ rest ∙ sym (ap (rows_on F n) (next-row F l e.link rows.next row)))
 
-  pub way-says : (cmp : K → K → Ordering) (code : K → ℕ) (F G : Forms K) (most : ℕ) → SaysTheSame cmp code F G (λ _. []) (λ k. rows_on F most (Some k)) (λ _. []) (λ k. rows_on G most (Some k))
-  way-says cmp code F G most = record {
+  pub way-says : (cmp : K → K → Ordering) (code : K → ℕ) (F G : Forms K) {S : ℕ → Type 0} → Stays F G S → (most : ℕ) → SaysTheSame cmp code F G S (λ _. []) (λ k. rows_on F most (Some k)) (λ _. []) (λ k. rows_on G most (Some k))
+  way-says cmp code F G {S = S} stays most = record {
     entry = λ x k same keyed. refl;
-    chain = λ k P same is. on-stays F G most (Some k) is.entries (λ m e. let at : k ≡ m = cc in subst (SameBelow (links_in F) F G) at same) is.rows;
+    chain = λ k P same is. on-stays F G stays most (Some k) is.entries (λ m e. let at : k ≡ m = cc in subst S at same) is.rows;
   }
 
-  on-first : (F : Forms K) (most k : ℕ) → 0 < length (rows_on F most (Some k)) → get_or (rows_on F most (Some k)) 0 0 ≡ k
-  unfolding rows_on
-  on-first F zero k some = absurd (omega (arith, some))
-  on-first F (suc n) k some = refl
+  -- and go down from row to row
+  on-down : (h : Heap K) (n l : ℕ) (o : Option ℕ) (es : List (Entry K)) → ((k : ℕ) → o ≡ Some k → HasLink (links_at h) l k) → IsKeyless h l → AreChainRows (form_at h) o es → IsDown (IsKeyless h) h l (rows_on (form_at h) n o)
+  unfolding rows_on AreChainRows
+  on-down h zero l o es has keyless rows = down-end (IsKeyless h) h l
+  on-down h (suc n) l None es has keyless rows = down-end (IsKeyless h) h l
+  on-down h (suc n) l (Some k) [] has keyless rows = absurd cc
+  on-down h (suc n) l (Some k) (e ∷ es) has keyless rows =
+      let at : rows.link ≡ k = cc in
+      let row : form_at h k ≡ Some (node chain (e.link ∷ option_to_list rows.next)) = ap (form_at h) (sym at) ∙ rows.row in
+      let rest = on-down h n k rows.next es (next-linked h k e.link rows.next row) (ap (key_of (form_at h)) row) rows.rest in
+      down-then (IsKeyless h) h l k (rows_on (form_at h) n (next_in (form_at h k))) (has k refl) keyless (subst (λ o. IsDown (IsKeyless h) h k (rows_on (form_at h) n o)) (sym (next-row (form_at h) k e.link rows.next row)) rest)
 
-  pub way-begins : (F : Forms K) (most : ℕ) → BeginsThere (λ _. []) (λ k. rows_on F most (Some k))
-  way-begins F most = record { entry = λ x some. absurd (omega (arith, some)); chain = λ k. on-first F most k }
+  pub way-goes : (cmp : K → K → Ordering) (h : Heap K) (most : ℕ) → GoesDown h cmp (λ _. []) (λ k. rows_on (form_at h) most (Some k))
+  way-goes cmp h most = record {
+    entry = λ l x has keyless. down-end (IsKeyless h) h l;
+    chain = λ l k P has keyless is. on-down h most l (Some k) is.entries (λ m e. let at : k ≡ m = cc in subst (HasLink (links_at h) l) at has) keyless is.rows;
+  }
+
+  -- the path over a key
+  abbrev pub way-paths : (cmp : K → K → Ordering) (code : K → ℕ) → Paths cmp code
+  way-paths cmp code = record { entry = λ F x. []; chain = λ F most k. rows_on F most (Some k); goes = way-goes cmp; says = λ F G S stays. way-says cmp code F G stays }
 
   -- what no entry leads to and the first row of a chain does is a row of the chain
   module _ (F : Forms K) (l : ℕ) where
@@ -184,7 +184,7 @@ module _ {K : Type 0} where
     on-reach (suc n) o (e ∷ es) few rows off m is way =
         let at : rows.link ≡ m = (let both : Some rows.link ≡ Some m = sym rows.here ∙ is in cc) in
         let row : F m ≡ Some (node chain (e.link ∷ option_to_list rows.next)) = ap F (sym at) ∙ rows.row in
-        let all : rows_on F (suc n) o ≡ m ∷ rows_on F n rows.next = ap (rows_on F (suc n)) is ∙ on-row F n m ∙ ap (λ b. m ∷ rows_on F n b) (next-is F m e.link rows.next row) in
+        let all : rows_on F (suc n) o ≡ m ∷ rows_on F n rows.next = ap (rows_on F (suc n)) is ∙ on-row F n m ∙ ap (λ b. m ∷ rows_on F n b) (next-row F m e.link rows.next row) in
         let later = λ (k : ℕ) (next : rows.next ≡ Some k) (down : Reaches (links_in F) k l). on-reach n rows.next es (omega (arith, few)) rows.rest (All-tail LeadsOff e es off) k next down in
         let apart : LeadsOff e = All-head LeadsOff e es off in
         subst (λ ks. 0 < count l ks) (sym all)

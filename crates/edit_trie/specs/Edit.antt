@@ -21,7 +21,7 @@ by_bits bits root = record { root = root; bits = bits }
 
 module _ {T : Type 0} (cmp : T → T → Ordering) (code : T → ℕ) where
   -- the link is that of the key's pair in the map of a root
-  pub record IsPairOf (h : Heap T) (r : Root) (key : T) (link : ℕ) : Type 0 where
+  pub record IsPairOfKey (h : Heap T) (r : Root) (key : T) (link : ℕ) : Type 0 where
     pub entries : List (Entry T)
     pub rooted : HasEntries cmp code h r entries
     pub there : link_with cmp key entries ≡ Some link
@@ -59,7 +59,7 @@ module _ {T : Type 0} (cmp : T → T → Ordering) (code : T → ℕ) where
     -- has that aren't alone
     pub record OwnsPair (link : ℕ) : Type 0 where
       pub map : IsMapOf cmp code new (by_bits bits root) M
-      pub pair : IsPairOf new (by_bits bits root) key link
+      pub pair : IsPairOfKey new (by_bits bits root) key link
       pub value : value_with cmp key M ≡ Some (child_at new link 1)
       pub top : owners_at new root ≡ 1
       pub sole : owners_at new link ≡ 1

@@ -14,7 +14,7 @@ use Rattle.champ_kinds.specs.Root.{Root}
 use Rattle.champ_kinds.specs.Binding.{Binding, bind}
 use Rattle.champ_kinds.specs.Kinds.{IsMapOf}
 use Rattle.edit_trie.specs.Path.{edit_path, pair_path}
-use Rattle.edit_trie.specs.Edit.{by_bits, IsPairOf}
+use Rattle.edit_trie.specs.Edit.{by_bits, IsPairOfKey}
 
 module _ {T : Type 0} (cmp : T → T → Ordering) (code : T → ℕ) where
   -- an edit that writes the way to a key's pair keeps all that any hold reaches beside its owner, and all below each value
@@ -37,12 +37,12 @@ module _ {T : Type 0} (cmp : T → T → Ordering) (code : T → ℕ) where
 
   -- a change at a key's pair, which keeps its head and its key cell, makes the map with the pair's new value at the key
   abbrev pub PairChangesBind : Type 0
-  PairChangesBind = (old new : Heap T) (r : Root) (M : List (Binding T)) (key : T) (link value l : ℕ) (spent gained : List ℕ) (c n : ℕ) → IsGraph old → IsMapOf cmp code old r M → IsPairOf cmp code old r key link
+  PairChangesBind = (old new : Heap T) (r : Root) (M : List (Binding T)) (key : T) (link value l : ℕ) (spent gained : List ℕ) (c n : ℕ) → IsGraph old → IsMapOf cmp code old r M → IsPairOfKey cmp code old r key link
       → Changes link old new spent gained c n → count l spent < holds_at old l → Reaches (links_at old) l r.root
       → head_of (row_at new link) ≡ head_of (row_at old link) → links_at new link ≡ child_at old link 0 ∷ value ∷ [] → key_at (form_at new) link ≡ key_at (form_at old) link
       → IsMapOf cmp code new r (bind cmp M key value)
 
   -- and it keeps all below the value of each other key, where it goes down from the root to the pair by rows with one owner each
   abbrev pub PairChangesKeepValues : Type 0
-  PairChangesKeepValues = (old new : Heap T) (r : Root) (M : List (Binding T)) (key : T) (link l : ℕ) (spent gained : List ℕ) (c n : ℕ) → IsGraph old → IsMapOf cmp code old r M → IsPairOf cmp code old r key link → OwnsDown old r.root link
+  PairChangesKeepValues = (old new : Heap T) (r : Root) (M : List (Binding T)) (key : T) (link l : ℕ) (spent gained : List ℕ) (c n : ℕ) → IsGraph old → IsMapOf cmp code old r M → IsPairOfKey cmp code old r key link → OwnsDown old r.root link
       → Changes link old new spent gained c n → count l spent < holds_at old l → Reaches (links_at old) l r.root → All (λ b. (cmp key b.key ≡ Equal → ⊥) → KeepsBelow old new b.value) M

@@ -1,7 +1,9 @@
 pub mod Path
 pub mod Spot
 pub mod Edit
+pub mod Root
 pub mod Walk
+pub mod Way
 pub mod Chains
 pub mod Laws
 pub mod Worked

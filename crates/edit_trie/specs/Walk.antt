@@ -39,7 +39,7 @@ module _ {T : Type 0} (cmp : T → T → Ordering) where
 
 module _ {T : Type 0} (cmp : T → T → Ordering) (code : T → ℕ) where
   -- below a row with one owner stand these entries, whose codes agree with this one above the row's depth
-  pub record CanEdit (h : Heap T) (left depth row c : ℕ) (E : List (Entry T)) : Type 0 where
+  pub record CanEditBelow (h : Heap T) (left depth row c : ℕ) (E : List (Entry T)) : Type 0 where
     pub graph : IsGraph h
     pub sole : owners_at h row ≡ 1
     pub below : IsBelow cmp code (form_at h) depth row E (suc left) c

@@ -11,10 +11,10 @@ ghost use Rattle.champ_kinds.specs.Kinds.{HasEntries, IsMapOf};
 ghost use Rattle.champ_kinds.specs.Edit.{PutsPair};
 ghost use Rattle.edit_trie.specs.Edit.{by_bits, PutsValue, OwnsEntry, OwnsPair};
 
-use crate::edit::bound;
+use crate::by::{insert_by, own_by};
 use crate::own::{OWN_NODES, own_entry};
+use crate::owner::Owner;
 use champ_kinds::{INSERT_NODES, MapFault};
-use champ_trie::look_up;
 use elem_core::{Element, NoMemory, Probe, masked};
 use node_heap::{Heap, Link};
 
@@ -47,13 +47,10 @@ pub fn insert_at<T: Element>(
     ensures ample { (M : List (Binding T)) → IsMapOf T.cmp T.code_of heap.old (by_bits bits (child_at heap.old parent child)) M →
         HasSpares heap.old 1 (INSERT_NODES + alike_keys T.code_of bits key M) → IsOk result }
 {
-    let root = heap.links(parent)[child];
-    let found = look_up(heap, root, &key, bits);
-    if heap.reserve(1, found.alike + INSERT_NODES).is_err() {
-        return Err(MapFault { key });
+    match insert_by(heap, &Owner::Place(parent, child), bits, key, value) {
+        Ok((_, given)) => Ok(given),
+        Err(fault) => Err(fault),
     }
-    let root = heap.own_child(parent, child);
-    Ok(bound(heap, root, found, key, value, bits))
 }
 
 /// The same as `TrieEdit::own_value` for the map by so many bits that is the child at an index of a row with one owner, which stays but
@@ -85,15 +82,10 @@ pub fn own_value_at<T: Element, P: Probe<T>>(
     ensures ample { (M : List (Binding T)) → IsMapOf T.cmp T.code_of heap.old (by_bits bits (child_at heap.old parent child)) M →
         HasSpares heap.old 0 (OWN_NODES + alike_keys T.code_of bits (P.stands_for key.now) M) → IsOk result }
 {
-    let root = heap.links(parent)[child];
-    let found = look_up(heap, root, key, bits);
-    if found.entry.is_none() {
+    let Some(did) = own_by(heap, &Owner::Place(parent, child), bits, key)? else {
         return Ok(None);
-    }
-    heap.reserve(0, found.alike + OWN_NODES)?;
-    let root = heap.own_child(parent, child);
-    let code = masked(key.code(), bits);
-    Ok(Some(own_entry(heap, root, 0, key, code, bits)))
+    };
+    Ok(Some(did.1))
 }
 
 /// The same for a key that is there, where there are `OWN_NODES` spare nodes, and one more for each key with the same masked code: it

@@ -15,7 +15,7 @@ ghost use Rattle.champ_chain.specs.Entry.{Entry, entry as entry_of, link_with, o
 ghost use Rattle.champ_trie.specs.Bits.{has};
 ghost use Rattle.champ_trie.specs.Trie.{IsRow, part, code_by};
 ghost use Rattle.champ_trie.specs.Reach.{alike_in};
-ghost use Rattle.edit_trie.specs.Walk.{CanEdit, CutsIn};
+ghost use Rattle.edit_trie.specs.Walk.{CanEditBelow, CutsIn};
 
 use crate::chain::{Slot, cut_from_chain};
 use crate::lone::lone_below;
@@ -37,9 +37,9 @@ pub(crate) fn cut_below<T: Element, P: Probe<T>>(
     requires depth { depth ≤ DEEPEST }
     requires few { hold_count heap.old < half_holds }
     requires code { code ≡ code_by T.code_of bits (P.stands_for key.now) }
-    requires row { (E : List (Entry T)) × (left : ℕ) × CanEdit T.cmp (code_by T.code_of bits) heap.old left depth row code E
+    requires row { (E : List (Entry T)) × (left : ℕ) × CanEditBelow T.cmp (code_by T.code_of bits) heap.old left depth row code E
         × (link_with T.cmp (P.stands_for key.now) E ≢ None) × (0 < depth → 2 ≤ length (others T.cmp (P.stands_for key.now) E)) × (left + alike_in (code_by T.code_of bits) code E ≤ heap.old.spare_nodes) }
-    ensures { (E : List (Entry T)) (left : ℕ) → CanEdit T.cmp (code_by T.code_of bits) heap.old left depth row code E →
+    ensures { (E : List (Entry T)) (left : ℕ) → CanEditBelow T.cmp (code_by T.code_of bits) heap.old left depth row code E →
         link_with T.cmp (P.stands_for key.now) E ≢ None → (0 < depth → 2 ≤ length (others T.cmp (P.stands_for key.now) E)) → CutsIn T.cmp (code_by T.code_of bits) heap.old heap.new left depth row code E (P.stands_for key.now) result }
 {
     let position = digit(code, depth);

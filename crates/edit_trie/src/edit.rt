@@ -1,26 +1,22 @@
 //! A map that is opened for edits in place.
 ghost use Rattle.std.specs.Prelude.{◌≡◌, ◌↔◌, ℕ, ◌+◌, ◌^◌, ◌<◌, ◌≤◌, List, [], ◌∷◌, IfOk, IfSome, IfErr, IsOk, OnOk, OnErr, Ok, None};
-ghost use Rattle.elem_core.specs.declared.codes.TheConstants.{CODE_BITS};
-ghost use Rattle.node_heap.specs.Links.{Reaches};
-ghost use Rattle.node_heap.specs.Heap.{row_at, links_at, holds_at, owners_at, hold_count, HasSpares, half_holds};
+ghost use Rattle.node_heap.specs.Heap.{row_at, holds_at, owners_at, hold_count, HasSpares, half_holds};
 ghost use Rattle.node_heap.specs.Calls.{Extends, KeepsBelow, KeepsToNeed, HasHolds, MakesWhatCame};
 ghost use Rattle.node_heap.specs.Owner.{by_hold, EditsBy};
 ghost use Rattle.champ_chain.specs.Entry.{Entry, others};
-ghost use Rattle.champ_trie.specs.Trie.{code_by};
-ghost use Rattle.champ_trie.specs.Reach.{alike_in};
 ghost use Rattle.champ_kinds.specs.Binding.{Binding, alike_keys, value_with};
 ghost use Rattle.champ_kinds.specs.Kinds.{HasEntries, IsMapOf};
 ghost use Rattle.champ_kinds.specs.Edit.{PutsPair};
-ghost use Rattle.edit_trie.specs.Bound.{CanBind, Binds};
 ghost use Rattle.edit_trie.specs.Edit.{PutsValue, CutsKey, OwnsEntry, OwnsPair};
 
+use crate::by::{insert_by, own_by};
 use crate::cut::cut_below;
-use crate::own::{OWN_NODES, own_entry};
-use crate::put::put_below;
+use crate::own::OWN_NODES;
+use crate::owner::{Owner, own_root};
 use champ_kinds::{INSERT_NODES, Map, MapFault, MapRef};
-use champ_trie::{ADD_NODES, Found, look_up};
+use champ_trie::look_up;
 use elem_core::{Element, LEVELS, NoMemory, Probe, masked};
-use node_heap::{Head, Heap, Link};
+use node_heap::{Heap, Link};
 use std::marker::Model;
 
 /// A map that is edited in place. It owns one hold of its root, and cannot be dropped or copied.
@@ -111,12 +107,13 @@ impl TrieEdit {
         ensures ample { (M : List (Binding T)) → IsMapOf T.cmp T.code_of heap.old self.old M →
             HasSpares heap.old 1 (INSERT_NODES + alike_keys T.code_of self.old.bits key M) → IsOk result }
     {
-        let found = look_up(heap, self.root, &key, self.bits);
-        if heap.reserve(1, found.alike + INSERT_NODES).is_err() {
-            return Err(MapFault { key });
+        match insert_by(heap, &Owner::Hold(self.root), self.bits, key, value) {
+            Ok(did) => {
+                self.root = did.0;
+                Ok(did.1)
+            }
+            Err(fault) => Err(fault),
         }
-        self.root = heap.own(self.root);
-        Ok(bound(heap, self.root, found, key, value, self.bits))
     }
 
     /// Takes the key out and gives its value, with a hold; None where the key is absent, and then nothing has changed. It makes
@@ -147,9 +144,9 @@ impl TrieEdit {
         let Some(pair) = found.entry else {
             return Ok(None);
         };
-        heap.reserve(0, found.alike + usize::from(LEVELS))?;
         let value = heap.links(pair)[1];
-        self.root = heap.own(self.root);
+        let nodes = found.alike + usize::from(LEVELS);
+        self.root = own_root(heap, &Owner::Hold(self.root), 0, nodes)?;
         let code = masked(key.code(), self.bits);
         let cut = cut_below(heap, self.root, 0, key, code, self.bits);
         heap.hold(value);
@@ -181,47 +178,10 @@ impl TrieEdit {
         ensures ample { (M : List (Binding T)) → IsMapOf T.cmp T.code_of heap.old self.old M →
             HasSpares heap.old 0 (OWN_NODES + alike_keys T.code_of self.old.bits (P.stands_for key.now) M) → IsOk result }
     {
-        let found = look_up(heap, self.root, key, self.bits);
-        if found.entry.is_none() {
+        let Some(did) = own_by(heap, &Owner::Hold(self.root), self.bits, key)? else {
             return Ok(None);
-        }
-        heap.reserve(0, found.alike + OWN_NODES)?;
-        self.root = heap.own(self.root);
-        let code = masked(key.code(), self.bits);
-        Ok(Some(own_entry(heap, self.root, 0, key, code, self.bits)))
-    }
-}
-
-// Puts the value at the key in the map of a root with one owner, by what was found of the key.
-pub(crate) fn bound<T: Element>(
-    heap: &mut Heap<T>,
-    root: Link,
-    found: Found,
-    key: T,
-    value: Link,
-    bits: u32,
-) -> Option<Link>
-    requires bits { bits ≤ CODE_BITS }
-    requires few { hold_count heap.old < half_holds }
-    requires held { 0 < holds_at heap.old value }
-    requires apart { ¬ Reaches (links_at heap.old) value root }
-    requires cells { 1 ≤ heap.old.spare_cells }
-    requires map { (E : List (Entry T)) × (M : List (Binding T)) × CanBind T.cmp T.code_of heap.old bits root key E M found.entry
-        × (ADD_NODES + alike_in (code_by T.code_of bits) (code_by T.code_of bits key) E ≤ heap.old.spare_nodes) }
-    ensures { (E : List (Entry T)) (M : List (Binding T)) → CanBind T.cmp T.code_of heap.old bits root key E M found.entry →
-        Binds T.cmp T.code_of heap.old heap.new bits root key E M value result }
-{
-    let code = masked(Element::code(&key), bits);
-    match found.entry {
-        Some(_) => {
-            let pair = own_entry(heap, root, 0, &key, code, bits);
-            Some(heap.replace(pair, 1, value))
-        }
-        None => {
-            let cell = heap.cell(key);
-            let entry = heap.node(Head::Pair, &[cell, value]);
-            put_below(heap, root, 0, entry, code, bits);
-            None
-        }
+        };
+        self.root = did.0;
+        Ok(Some(did.1))
     }
 }

@@ -6,14 +6,17 @@
 #![tactic(auto)]
 
 mod at;
+mod by;
 mod chain;
 mod cut;
 mod edit;
 mod laws;
 mod lone;
 mod own;
+mod owner;
 mod put;
 mod row;
+mod way;
 
 pub use at::{insert_at, own_value_at, own_value_there};
 pub use edit::{MapOpenFault, TrieEdit};

@@ -32,7 +32,7 @@ pub(crate) fn lone_beside<T: Element, P: Probe<T>>(
         link_with T.cmp (P.stands_for key.now) E ≢ None → 2 ≤ length E → MatchOption result (2 ≤ length (others T.cmp (P.stands_for key.now) E))
         (λ lone. (k : T) × (others T.cmp (P.stands_for key.now) E ≡ entry_of k lone ∷ []) × IsEntry (form_at heap.now) (entry_of k lone)) }
 {
-    heap.is_graph();
+    heap.rows_form_a_graph();
     if depth > DEEPEST {
         return lone_in_chain(heap, node, key);
     }
@@ -98,7 +98,7 @@ fn lone_in_chain<T: Element, P: Probe<T>>(heap: &Heap<T>, chain: Link, key: &P) 
         MatchOption result (2 ≤ length (others T.cmp (P.stands_for key.now) E))
         (λ lone. (k : T) × (others T.cmp (P.stands_for key.now) E ≡ entry_of k lone ∷ []) × IsEntry (form_at heap.now) (entry_of k lone)) }
 {
-    heap.is_graph();
+    heap.rows_form_a_graph();
     let first = row_of(heap, chain);
     let second = row_of(heap, first.next?);
     if second.next.is_some() {

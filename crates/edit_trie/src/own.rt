@@ -4,7 +4,7 @@ ghost use Rattle.node_heap.specs.Heap.{form_at};
 ghost use Rattle.champ_chain.specs.Entry.{Entry};
 ghost use Rattle.champ_trie.specs.Trie.{code_by};
 ghost use Rattle.champ_trie.specs.Reach.{alike_in};
-ghost use Rattle.edit_trie.specs.Walk.{CanEdit, HasPair, OwnsIn};
+ghost use Rattle.edit_trie.specs.Walk.{CanEditBelow, HasPair, OwnsIn};
 
 use crate::chain::{Slot, own_in_chain};
 use crate::row::{Spot, spot_at};
@@ -27,9 +27,9 @@ pub(crate) fn own_entry<T: Element, P: Probe<T>>(
     requires bits { bits ≤ CODE_BITS }
     requires depth { depth ≤ DEEPEST }
     requires code { code ≡ code_by T.code_of bits (P.stands_for key.now) }
-    requires row { (E : List (Entry T)) × (left : ℕ) × (e : Entry T) × CanEdit T.cmp (code_by T.code_of bits) heap.old left depth row code E
+    requires row { (E : List (Entry T)) × (left : ℕ) × (e : Entry T) × CanEditBelow T.cmp (code_by T.code_of bits) heap.old left depth row code E
         × HasPair T.cmp heap.old E (P.stands_for key.now) e × (left + 1 + alike_in (code_by T.code_of bits) code E ≤ heap.old.spare_nodes) }
-    ensures { (E : List (Entry T)) (left : ℕ) (e : Entry T) → CanEdit T.cmp (code_by T.code_of bits) heap.old left depth row code E →
+    ensures { (E : List (Entry T)) (left : ℕ) (e : Entry T) → CanEditBelow T.cmp (code_by T.code_of bits) heap.old left depth row code E →
         HasPair T.cmp heap.old E (P.stands_for key.now) e → OwnsIn T.cmp (code_by T.code_of bits) heap.old heap.new left depth row code E (P.stands_for key.now) e result }
 {
     match spot_at(heap, row, digit(code, depth)) {

@@ -7,7 +7,7 @@ ghost use Rattle.champ_chain.specs.Entry.{Entry, key_at, link_with};
 ghost use Rattle.champ_trie.specs.Bits.{has};
 ghost use Rattle.champ_trie.specs.Trie.{IsRow, code_by};
 ghost use Rattle.champ_trie.specs.Reach.{alike_in};
-ghost use Rattle.edit_trie.specs.Walk.{CanEdit, PutsIn};
+ghost use Rattle.edit_trie.specs.Walk.{CanEditBelow, PutsIn};
 
 use crate::chain::{Slot, put_in_chain};
 use crate::row::{Spot, put_entry, put_node, spot_at, take_entry};
@@ -30,10 +30,10 @@ pub(crate) fn put_below<T: Element>(
     requires few { hold_count heap.old < half_holds }
     requires held { 0 < holds_at heap.old entry }
     requires apart { ¬ Reaches (links_at heap.old) entry row }
-    requires row { (E : List (Entry T)) × (left : ℕ) × (k : T) × CanEdit T.cmp (code_by T.code_of bits) heap.old left depth row code E
+    requires row { (E : List (Entry T)) × (left : ℕ) × (k : T) × CanEditBelow T.cmp (code_by T.code_of bits) heap.old left depth row code E
         × (key_at (form_at heap.old) entry ≡ Some k) × (code ≡ code_by T.code_of bits k) × (link_with T.cmp k E ≡ None)
         × (left + 1 + alike_in (code_by T.code_of bits) code E ≤ heap.old.spare_nodes) }
-    ensures { (E : List (Entry T)) (left : ℕ) (k : T) → CanEdit T.cmp (code_by T.code_of bits) heap.old left depth row code E →
+    ensures { (E : List (Entry T)) (left : ℕ) (k : T) → CanEditBelow T.cmp (code_by T.code_of bits) heap.old left depth row code E →
         key_at (form_at heap.old) entry ≡ Some k → code ≡ code_by T.code_of bits k → link_with T.cmp k E ≡ None →
         PutsIn T.cmp (code_by T.code_of bits) heap.old heap.new left depth row code E k entry }
 {
@@ -59,10 +59,10 @@ fn split<T: Element>(heap: &mut Heap<T>, row: Link, depth: u8, entry: Link, code
     requires held { 0 < holds_at heap.old entry }
     requires apart { ¬ Reaches (links_at heap.old) entry row }
     requires spot { (d e n : ℕ) (ls : List ℕ) → IsRow (form_at heap.old) row d e n ls → has e (digit_at code depth) ≡ true }
-    requires row { (E : List (Entry T)) × (left : ℕ) × (k : T) × CanEdit T.cmp (code_by T.code_of bits) heap.old left depth row code E
+    requires row { (E : List (Entry T)) × (left : ℕ) × (k : T) × CanEditBelow T.cmp (code_by T.code_of bits) heap.old left depth row code E
         × (key_at (form_at heap.old) entry ≡ Some k) × (code ≡ code_by T.code_of bits k) × (link_with T.cmp k E ≡ None)
         × (left + 1 + alike_in (code_by T.code_of bits) code E ≤ heap.old.spare_nodes) }
-    ensures { (E : List (Entry T)) (left : ℕ) (k : T) → CanEdit T.cmp (code_by T.code_of bits) heap.old left depth row code E →
+    ensures { (E : List (Entry T)) (left : ℕ) (k : T) → CanEditBelow T.cmp (code_by T.code_of bits) heap.old left depth row code E →
         key_at (form_at heap.old) entry ≡ Some k → code ≡ code_by T.code_of bits k → link_with T.cmp k E ≡ None →
         PutsIn T.cmp (code_by T.code_of bits) heap.old heap.new left depth row code E k entry }
 {

@@ -9,7 +9,7 @@ ghost use Rattle.champ_trie.specs.Trie.{IsRow, place_of};
 ghost use Rattle.champ_trie.specs.declared.place.Place.TheVariants.{Entry as At, Node as NodeAt, Empty};
 ghost use Rattle.edit_trie.specs.Spot.{IsSpot, PutsAt};
 
-use champ_trie::{cleared, contains, rank_of, sets_of, with_position};
+use champ_trie::{cleared, contains, node_index, rank_of, sets_of, with_position};
 use node_heap::{Head, Heap, Link, TrieRef};
 
 // What stands at a position of a trie row, by its index among the row's links.
@@ -32,8 +32,7 @@ pub(crate) fn spot_in(entries: u32, nodes: u32, position: u32) -> Spot
         return Spot::Entry(rank_of(entries, position) as usize);
     }
     if contains(nodes, position) {
-        let index = entries.count_ones() + rank_of(nodes, position);
-        return Spot::Node(index as usize);
+        return Spot::Node(node_index(entries, nodes, position));
     }
     Spot::Empty
 }
@@ -45,7 +44,7 @@ pub(crate) fn spot_at<T>(heap: &Heap<T>, row: Link, position: u32) -> Spot
     ensures graph { IsGraph heap.now }
     ensures spot { (depth entries nodes : ℕ) (links : List ℕ) → IsRow (form_at heap.now) row depth entries nodes links → IsSpot entries nodes position result }
 {
-    heap.is_graph();
+    heap.rows_form_a_graph();
     let TrieRef { entries, nodes, .. } = heap.trie(row);
     spot_in(entries, nodes, position)
 }
@@ -94,8 +93,7 @@ pub(crate) fn put_node<T>(heap: &mut Heap<T>, row: Link, depth: u8, position: u3
     ensures gains { Gains heap.old heap.new }
 {
     let (entries, nodes) = sets_of(heap, row);
-    let index = entries.count_ones() + rank_of(nodes, position);
-    heap.insert_link(row, index as usize, node);
+    heap.insert_link(row, node_index(entries, nodes, position), node);
     let nodes = with_position(nodes, position);
     heap.set_head(
         row,
@@ -151,8 +149,7 @@ pub(crate) fn take_node<T>(heap: &mut Heap<T>, row: Link, depth: u8, position: u
     ensures gains { Gains heap.old heap.new }
 {
     let (entries, nodes) = sets_of(heap, row);
-    let index = entries.count_ones() + rank_of(nodes, position);
-    let node = heap.remove_link(row, index as usize);
+    let node = heap.remove_link(row, node_index(entries, nodes, position));
     let nodes = cleared(nodes, position);
     heap.set_head(
         row,

@@ -5,7 +5,7 @@ use Rattle.node_heap.specs.InPlace.{child_at}
 use Rattle.edit_trie.specs.Chains.{OwnsRows}
 use Rattle.edit_trie.proofs.RowLemmas.{node-form}
 use Rattle.edit_trie.proofs.ChildLemmas.{OwnsChild, owns-child}
-use Rattle.edit_trie.proofs.ChainLemmas.{next-row, owns-none, owns-more}
+use Rattle.edit_trie.proofs.ChainLemmas.{row-there, owns-none, owns-more}
 use Rattle.edit_trie.proofs.chain.own_rows.Goals as goal
 
 pub own_child-row-requires-clause-sole : goal.own_child-row-requires-clause-sole
@@ -15,13 +15,13 @@ pub own_child-row-requires-clause-index : goal.own_child-row-requires-clause-ind
 own_child-row-requires-clause-index g c =
     let es = c.requires.rows.0 in
     let inv = c.loop-passed.invariant es c.requires.rows.1 c.requires.rows.2 in
-    (next-row c.args.heap.now c.loop-passed.heap c.args.first.row c.args.first.index c.loop-passed.slot.row c.loop-passed.slot.index c.loop-passed._passed es c.requires.index (omega (arith, c.loop-passed-test.true, c.requires.rows.2)) inv c.requires.rows.1).inside
+    (row-there c.args.heap.now c.loop-passed.heap c.args.first.row c.args.first.index c.loop-passed.slot.row c.loop-passed.slot.index c.loop-passed._passed es c.requires.index (omega (arith, c.loop-passed-test.true, c.requires.rows.2)) inv c.requires.rows.1).inside
 
 pub own_child-row-requires-clause-node : goal.own_child-row-requires-clause-node
 own_child-row-requires-clause-node g c =
     let es = c.requires.rows.0 in
     let inv = c.loop-passed.invariant es c.requires.rows.1 c.requires.rows.2 in
-    let at = next-row c.args.heap.now c.loop-passed.heap c.args.first.row c.args.first.index c.loop-passed.slot.row c.loop-passed.slot.index c.loop-passed._passed es c.requires.index (omega (arith, c.loop-passed-test.true, c.requires.rows.2)) inv c.requires.rows.1 in
+    let at = row-there c.args.heap.now c.loop-passed.heap c.args.first.row c.args.first.index c.loop-passed.slot.row c.loop-passed.slot.index c.loop-passed._passed es c.requires.index (omega (arith, c.loop-passed-test.true, c.requires.rows.2)) inv c.requires.rows.1 in
     node-form (row_at c.loop-passed.heap (child_at c.loop-passed.heap c.loop-passed.slot.row c.loop-passed.slot.index)) _ _ at.form
 
 pub own_child-row-requires-clause-spare : goal.own_child-row-requires-clause-spare
@@ -42,7 +42,7 @@ loop-passed-preserved g c = λ es rows le.
     let i = c.loop-passed.slot.index in
     let k = c.own_child-row.result in
     let inv = c.loop-passed.invariant es rows le in
-    let at = next-row old now c.args.first.row c.args.first.index r i c.loop-passed._passed es c.requires.index (omega (arith, c.loop-passed-test.true, le)) inv rows in
+    let at = row-there old now c.args.first.row c.args.first.index r i c.loop-passed._passed es c.requires.index (omega (arith, c.loop-passed-test.true, le)) inv rows in
     let did_own = c.own_child-row.ensures in
     let own : OwnsChild now mid r i k = owns-child at.inside did_own.same did_own.row did_own.sole did_own.fresh did_own.parent_head did_own.parent_links did_own.stays did_own.others did_own.owners did_own.changes did_own.makes in
     subst (λ xs. OwnsRows old mid c.args.first.row c.args.first.index xs k 1) (sym at.more)

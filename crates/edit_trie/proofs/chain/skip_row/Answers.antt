@@ -1,9 +1,8 @@
 use Rattle.std.proofs.Common.{ap, ◌∙◌, get_or, set}
 use Rattle.node_heap.specs.Forms.{head_of, links_of}
 use Rattle.node_heap.specs.Calls.{Gains}
-use Rattle.node_heap.proofs.Edited.{Changes-then}
-use Rattle.node_heap.proofs.EditLaws.{Gains-trans, Gains-Changes}
-use Rattle.edit_trie.proofs.ChainCutLemmas.{hold-change, sole-held, apart-held}
+use Rattle.node_heap.proofs.CallerLemmas.{Changes-then, Gains-trans, Gains-Changes}
+use Rattle.edit_trie.proofs.ChainEdits.{hold-change, sole-held, apart-held}
 use Rattle.edit_trie.proofs.chain.skip_row.Goals as goal
 
 pub replace-requires-clause-sole : goal.replace-requires-clause-sole

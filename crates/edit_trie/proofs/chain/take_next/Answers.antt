@@ -1,8 +1,8 @@
 use Rattle.std.proofs.Common.{arith, length, refl, sym, ap, ◌∙◌, Some}
 use Rattle.std.proofs.lemmas.Option.{slice_get-get_or, slice_get_past}
 use Rattle.node_heap.specs.Heap.{links_at}
-use Rattle.node_heap.proofs.EditLaws.{owned-live}
-use Rattle.edit_trie.proofs.ChainPutLemmas.{remove-past}
+use Rattle.node_heap.proofs.CallerLemmas.{owned-live}
+use Rattle.edit_trie.proofs.ChainEdits.{remove-past}
 use Rattle.edit_trie.proofs.chain.take_next.Goals as goal
 
 pub links-requires : goal.links-requires

@@ -2,11 +2,9 @@ use Rattle.std.proofs.Common.{arith, ◌≢◌, [], ◌∷◌, ◌∙◌, subst,
 use Rattle.node_heap.specs.Links.{Reaches, here}
 use Rattle.node_heap.specs.Heap.{links_at}
 use Rattle.node_heap.specs.InPlace.{Changes}
-use Rattle.node_heap.proofs.BuildLemmas.{Builds-hold}
-use Rattle.node_heap.proofs.Counts.{test_same, test_other}
-use Rattle.node_heap.proofs.Edited.{Reaches-back, Changes-beside, Changes-follow}
-use Rattle.node_heap.proofs.EditLaws.{Changes-hold, Gains-trans, Gains-Builds}
-use Rattle.edit_trie.proofs.CutLemmas.{row-held, puts-then}
+use Rattle.node_heap.proofs.CallerLemmas.{Builds-hold, test_same, test_other, Reaches-back, Changes-beside, Changes-follow, Changes-hold, Gains-trans, Gains-Builds}
+use Rattle.edit_trie.proofs.StepLemmas.{puts-then}
+use Rattle.edit_trie.proofs.EditLemmas.{row-held}
 use Rattle.edit_trie.proofs.cut.lift.Goals as goal
 
 pub take_node-cut-requires-clause-sole : goal.take_node-cut-requires-clause-sole

@@ -1,5 +1,4 @@
-use Rattle.edit_trie.proofs.LawLemmas.{edits-keep-values, cuts-keep-values, cuts-keep-held}
-use Rattle.edit_trie.proofs.PairLawLemmas.{pair-changes-bind, pair-changes-keep-values}
+use Rattle.edit_trie.proofs.LawLemmas.{edits-keep-values, cuts-keep-values, cuts-keep-held, pair-changes-bind, pair-changes-keep-values}
 use Rattle.edit_trie.proofs.laws.edits_keep_values.Goals as goal
 
 pub returns-clause-edits : goal.returns-clause-edits

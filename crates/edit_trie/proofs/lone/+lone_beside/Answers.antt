@@ -8,12 +8,11 @@ use Rattle.node_heap.specs.Heap.{Heap, form_at}
 use Rattle.champ_chain.specs.Entry.{Entry, link_with}
 use Rattle.champ_trie.specs.Trie.{IsRow, code_by}
 use Rattle.champ_trie.specs.Edit.{IsBelow}
-use Rattle.champ_trie.proofs.WithLemmas.{below-chain, below-more}
-use Rattle.champ_trie.proofs.ShareLemmas.{row-at}
+use Rattle.champ_trie.proofs.CallerLemmas.{below-chain, below-more, row-at}
 use Rattle.edit_trie.specs.Spot.{IsSpot}
 use Rattle.edit_trie.specs.declared.row.Spot.{Spot}
 use Rattle.edit_trie.specs.declared.row.Spot.TheVariants.{Entry as EntryAt, Node as NodeAt, Empty as NoneAt}
-use Rattle.edit_trie.proofs.LoneTrie.{link-at, row-below, entries-below, nodes-below, links-below, fewer, never-empty, lone-entry, more-entries, more-nodes, only-node}
+use Rattle.edit_trie.proofs.LoneLemmas.{link-at, row-below, entries-below, nodes-below, links-below, fewer, never-empty, lone-entry, more-entries, more-nodes, only-node}
 use Rattle.edit_trie.proofs.RowLemmas.{row-links, row-read, spot-read, entry-inside, node-inside}
 use Rattle.edit_trie.proofs.lone.+lone_beside.Given.{Over}
 use Rattle.edit_trie.proofs.lone.+lone_beside.Goals.{After-trie-entries, else-nodes-eq0-via-then-nodes-eq0+else-links-eq2, else-nodes-eq0-via-else-nodes-eq0}
@@ -109,48 +108,32 @@ module _ (g : Over) (t : ℕ) (c : After-trie-entries g t) where
 pub overflow_sub-result : goal.overflow_sub-result
 overflow_sub-result g t c =
     let way = (goal.at.overflow_sub-result g t c).After-trie-entries in
-    let E = c.requires.node.0 in
-    let left = c.requires.node.1 in
-    let below = c.requires.node.2 in
-    let there = c.requires.node.3 in
-    let two = c.requires.node.4 in
-    let spot = spot-is g t way E left below there two c.digit.result c.digit.ensures.read (EntryAt c.in-Entry.index) c.in-Entry.ensures in
-    omega (arith, entry-in g t way E left below there two c.in-Entry.index spot, c.if-links-eq2.true)
+    let r = c.requires.node in
+    let spot = spot-is g t way r.0 r.1 r.2 r.3 r.4 c.digit.result c.digit.ensures.read (EntryAt c.in-Entry.index) c.in-Entry.ensures in
+    omega (arith, entry-in g t way r.0 r.1 r.2 r.3 r.4 c.in-Entry.index spot, c.if-links-eq2.true)
 
 pub offset_bounds-links-index-then-links-eq1 : goal.offset_bounds-links-index-then-links-eq1
 offset_bounds-links-index-then-links-eq1 g t c =
     let way = (goal.at.offset_bounds-links-index-then-links-eq1 g t c).After-trie-entries in
-    let E = c.requires.node.0 in
-    let left = c.requires.node.1 in
-    let below = c.requires.node.2 in
-    let there = c.requires.node.3 in
-    let two = c.requires.node.4 in
-    let spot = spot-is g t way E left below there two c.digit.result c.digit.ensures.read (NodeAt c.in-Node.index) c.in-Node.ensures in
-    let small : c.in-Node.index * 8 < 2 ^ 64 = omega (arith, node-in g t way E left below there two c.in-Node.index spot, c.if-links-eq1.true) in
+    let r = c.requires.node in
+    let spot = spot-is g t way r.0 r.1 r.2 r.3 r.4 c.digit.result c.digit.ensures.read (NodeAt c.in-Node.index) c.in-Node.ensures in
+    let small : c.in-Node.index * 8 < 2 ^ 64 = omega (arith, node-in g t way r.0 r.1 r.2 r.3 r.4 c.in-Node.index spot, c.if-links-eq1.true) in
     search rules
 
 pub bounds-links-index-then-links-eq1 : goal.bounds-links-index-then-links-eq1
 bounds-links-index-then-links-eq1 g t c =
     let way = (goal.at.bounds-links-index-then-links-eq1 g t c).After-trie-entries in
-    let E = c.requires.node.0 in
-    let left = c.requires.node.1 in
-    let below = c.requires.node.2 in
-    let there = c.requires.node.3 in
-    let two = c.requires.node.4 in
-    let spot = spot-is g t way E left below there two c.digit.result c.digit.ensures.read (NodeAt c.in-Node.index) c.in-Node.ensures in
-    omega (arith, node-in g t way E left below there two c.in-Node.index spot)
+    let r = c.requires.node in
+    let spot = spot-is g t way r.0 r.1 r.2 r.3 r.4 c.digit.result c.digit.ensures.read (NodeAt c.in-Node.index) c.in-Node.ensures in
+    omega (arith, node-in g t way r.0 r.1 r.2 r.3 r.4 c.in-Node.index spot)
 
 pub lone_beside-requires : goal.lone_beside-requires
 lone_beside-requires g t c κs within =
     let way = (goal.at.lone_beside-requires g t c).After-trie-entries in
-    let E = c.requires.node.0 in
-    let left = c.requires.node.1 in
-    let below = c.requires.node.2 in
-    let there = c.requires.node.3 in
-    let two = c.requires.node.4 in
-    let spot = spot-is g t way E left below there two c.digit.result c.digit.ensures.read (NodeAt c.in-Node.index) c.in-Node.ensures in
-    let next = only g t way E left below there two c.in-Node.index c.index-links-index-then-links-eq1.result spot c.if-links-eq1.true c.index-links-index-then-links-eq1.is in
-    (search rules, (search rules, (search rules, (c.requires.bits, (omega (arith, deep g t way), (c.requires.code, (E, fewer-left g t way E left below there two, next, there, two)))))))
+    let r = c.requires.node in
+    let spot = spot-is g t way r.0 r.1 r.2 r.3 r.4 c.digit.result c.digit.ensures.read (NodeAt c.in-Node.index) c.in-Node.ensures in
+    let next = only g t way r.0 r.1 r.2 r.3 r.4 c.in-Node.index c.index-links-index-then-links-eq1.result spot c.if-links-eq1.true c.index-links-index-then-links-eq1.is in
+    (search rules, (search rules, (search rules, (c.requires.bits, (omega (arith, deep g t way), (c.requires.code, (r.0, fewer-left g t way r.0 r.1 r.2 r.3 r.4, next, r.3, r.4)))))))
 
 pub returns-in-Empty-clause-lone : goal.returns-in-Empty-clause-lone
 returns-in-Empty-clause-lone g t c = λ E left under there two.

@@ -2,7 +2,7 @@ use Rattle.std.proofs.Common.{rules, arith, ◌+◌, ◌*◌, ◌<◌, ◌≤◌
 use Rattle.node_heap.specs.Heap.{form_at, links_at}
 use Rattle.champ_trie.specs.Trie.{code_by}
 use Rattle.champ_trie.specs.Edit.{IsBelow}
-use Rattle.edit_trie.proofs.LoneTrie.{link-at}
+use Rattle.edit_trie.proofs.LoneLemmas.{link-at}
 use Rattle.edit_trie.proofs.lone.lone_below.Goals as goal
 
 pub offset_bounds-links-index : goal.offset_bounds-links-index

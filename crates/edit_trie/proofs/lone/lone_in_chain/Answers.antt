@@ -1,6 +1,6 @@
 use Rattle.std.proofs.Common.{refl, sym, ◌∙◌}
 use Rattle.node_heap.specs.Heap.{form_at}
-use Rattle.champ_chain.proofs.SpotLemmas.{first-row}
+use Rattle.champ_chain.proofs.CallerLemmas.{first-row}
 use Rattle.edit_trie.proofs.LoneLemmas.{some-of, none-of, has-second, first-key, second-row, third-more, left-second, left-first}
 use Rattle.edit_trie.proofs.lone.lone_in_chain.Goals as goal
 
@@ -33,7 +33,7 @@ returns-in-Equal-clause-lone g c = λ E chain there.
 
 pub returns-in_default : goal.returns-in_default
 returns-in_default g c = record {
-  graph = c.is_graph.ensures;
+  graph = c.rows_form_a_graph.ensures;
   lone = λ E chain there.
       left-first g.T.Ord.cmp g.met.T.Ord.total (form_at c.args.heap.now) c.args.chain E (g.P.Probe.stands_for c.args.key.now) chain c.row_of-first.result.entry c.row_of-first.result.next c.row_of-first.ensures c.in_ok-first.field-0 c.in_ok-first.was
       c.row_of-second.result.entry c.row_of-second.result.next c.row_of-second.ensures (none-of c.row_of-second.result.next (sym c.is_some.ensures ∙ c.if-is_some.false)) there c.key_of.result.now c.key_of.ensures (λ e. c.in_default.not-Equal (c.order.ensures ∙ e));

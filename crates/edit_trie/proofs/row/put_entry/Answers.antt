@@ -1,17 +1,13 @@
-use Rattle.std.proofs.Common.{◌≡◌, ℕ, length, ap, subst, ◌∙◌, arith, Some}
+use Rattle.std.proofs.Common.{◌≡◌, ℕ, length, ap, subst, ◌∙◌, arith}
 use Rattle.std.specs.List.{insert}
-use Rattle.node_heap.specs.Forms.{node, trie, links_of}
+use Rattle.node_heap.specs.Forms.{trie, links_of}
 use Rattle.node_heap.specs.Heap.{row_at, form_at}
-use Rattle.node_heap.proofs.Edited.{Changes-beside}
-use Rattle.champ_trie.specs.Bits.{has, rank, Gains}
+use Rattle.node_heap.proofs.CallerLemmas.{Changes-beside, Gains-Changes, Gains-trans}
+use Rattle.champ_trie.specs.Bits.{has, rank, GainsPosition}
 use Rattle.champ_trie.specs.Trie.{place_of}
 use Rattle.champ_trie.specs.declared.place.Place.TheVariants.{Empty}
-use Rattle.champ_trie.proofs.BitLemmas.{rank-mono}
-use Rattle.champ_trie.proofs.PlaceLemmas.{place-free, put-entry, room}
-use Rattle.edit_trie.proofs.RowLemmas.{node-form, row-links}
-use Rattle.champ_trie.proofs.RowLemmas.{same-place-of}
-use Rattle.edit_trie.proofs.RowLemmas.{row-made, node-head}
-use Rattle.node_heap.proofs.EditLaws.{Gains-Changes, Gains-trans}
+use Rattle.champ_trie.proofs.CallerLemmas.{rank-mono, place-free, put-entry, room, same-place-of}
+use Rattle.edit_trie.proofs.RowLemmas.{node-form, row-links, node-head, puts-row}
 use Rattle.edit_trie.proofs.row.put_entry.Goals as goal
 
 pub insert_link-requires-clause-node : goal.insert_link-requires-clause-node
@@ -48,24 +44,13 @@ returns-clause-puts g c = λ e n ls is.
     let none : place_of e n ls c.args.position ≡ Empty = same-place-of (form_at c.args.heap.now) c.args.row c.args.depth e n ls c.args.depth c.requires.row.0 c.requires.row.1 c.requires.row.2 c.args.position is c.requires.row.3 ∙ c.requires.row.4 in
     let free = place-free e n ls c.args.position none in
     let e' : ℕ = c.with_position-entries.result in
-    let gains = subst (λ s. Gains s e' c.args.position) read.0 c.with_position-entries.ensures in
+    let gains = subst (λ s. GainsPosition s e' c.args.position) read.0 c.with_position-entries.ensures in
     let changed = put-entry e n ls c.args.position c.requires.position is.sets e' c.args.entry (omega (arith, c.with_position-entries.type_inv)) free.0 free.1 gains in
     let at : c.rank_of.result ≡ rank e c.args.position = c.rank_of.ensures ∙ ap (λ s. rank s c.args.position) read.0 in
     let links : links_of (row_at c.set_head.new.self c.args.row) ≡ insert ls (rank e c.args.position) c.args.entry =
     c.set_head.ensures.writes.new_links ∙ c.insert_link.ensures.writes.new_links
     ∙ ap (λ ks. insert ks c.rank_of.result c.args.entry) (row-links c.args.heap.now c.args.row c.args.depth e n ls is) ∙ ap (λ i. insert ls i c.args.entry) at in
-    record {
-      entries = e';
-      nodes = n;
-      links = insert ls (rank e c.args.position) c.args.entry;
-      row_is = record {
-        row = row-made (row_at c.set_head.new.self c.args.row) _ (insert ls (rank e c.args.position) c.args.entry) c.set_head.ensures.writes.new_head links
-            ∙ ap (λ m. Some (node (trie c.args.depth e' m) (insert ls (rank e c.args.position) c.args.entry))) read.1;
-        sets = changed.sets;
-      };
-      puts = changed.here;
-      others = changed.others;
-    }
+    puts-row c.set_head.new.self c.args.row c.args.depth e n c.args.position ls changed c.set_head.ensures.writes.new_head (ap (λ m. trie c.args.depth e' m) read.1) links
 
 pub returns-clause-others : goal.returns-clause-others
 returns-clause-others g c = λ k other. c.set_head.ensures.writes.others k other ∙ c.insert_link.ensures.writes.others k other

@@ -1,18 +1,13 @@
-use Rattle.std.proofs.Common.{◌≡◌, ℕ, ◌+◌, ◌<◌, ◌^◌, length, ap, subst, ◌∙◌, arith, Some}
+use Rattle.std.proofs.Common.{◌≡◌, ℕ, ◌+◌, length, ap, subst, ◌∙◌, arith}
 use Rattle.std.specs.List.{insert}
-use Rattle.std.specs.Prelude.{count_ones}
-use Rattle.node_heap.specs.Forms.{node, trie, links_of}
+use Rattle.node_heap.specs.Forms.{trie, links_of}
 use Rattle.node_heap.specs.Heap.{row_at, form_at}
-use Rattle.node_heap.proofs.Edited.{Changes-beside}
-use Rattle.champ_trie.specs.Bits.{has, rank, Gains}
+use Rattle.node_heap.proofs.CallerLemmas.{Changes-beside, Gains-Changes, Gains-trans}
+use Rattle.champ_trie.specs.Bits.{has, rank, GainsPosition}
 use Rattle.champ_trie.specs.Trie.{place_of}
 use Rattle.champ_trie.specs.declared.place.Place.TheVariants.{Empty}
-use Rattle.champ_trie.proofs.BitLemmas.{rank-mono, rank-le, count-rank}
-use Rattle.champ_trie.proofs.PlaceLemmas.{place-free, put-node, room}
-use Rattle.edit_trie.proofs.RowLemmas.{node-form, row-links}
-use Rattle.champ_trie.proofs.RowLemmas.{same-place-of}
-use Rattle.edit_trie.proofs.RowLemmas.{row-made, node-head}
-use Rattle.node_heap.proofs.EditLaws.{Gains-Changes, Gains-trans}
+use Rattle.champ_trie.proofs.CallerLemmas.{rank-mono, place-free, put-node, room, same-place-of}
+use Rattle.edit_trie.proofs.RowLemmas.{node-form, row-links, node-head, puts-row}
 use Rattle.edit_trie.proofs.row.put_node.Goals as goal
 
 pub insert_link-requires-clause-node : goal.insert_link-requires-clause-node
@@ -22,9 +17,7 @@ pub insert_link-requires-clause-index : goal.insert_link-requires-clause-index
 insert_link-requires-clause-index g c =
     let is = c.requires.row.3 in
     let read = c.sets_of-entries.ensures c.args.depth c.requires.row.0 c.requires.row.1 c.requires.row.2 is.row in
-    let small : c.sets_of-entries.result.0 < 2 ^ 32 = omega (arith, read.0, is.sets.entries_small) in
-    let ones : count_ones c.sets_of-entries.result.0 ≡ rank c.requires.row.0 32 = count-rank c.sets_of-entries.result.0 small ∙ ap (λ s. rank s 32) read.0 in
-    let at : count_ones c.sets_of-entries.result.0 + c.rank_of.result ≡ rank c.requires.row.0 32 + rank c.requires.row.1 c.args.position = omega (arith, ones, c.rank_of.ensures ∙ ap (λ s. rank s c.args.position) read.1) in
+    let at : c.node_index.result ≡ rank c.requires.row.0 32 + rank c.requires.row.1 c.args.position = omega (arith, c.node_index.ensures, ap (λ s. rank s 32) read.0, ap (λ s. rank s c.args.position) read.1) in
     omega (arith, at, rank-mono c.requires.row.1 c.args.position 32 (omega (arith, c.requires.position)), is.sets.count, ap length (row-links c.args.heap.now c.args.row c.args.depth c.requires.row.0 c.requires.row.1 c.requires.row.2 is))
 
 pub insert_link-requires-clause-room : goal.insert_link-requires-clause-room
@@ -51,26 +44,13 @@ returns-clause-puts g c = λ e n ls is.
     let none : place_of e n ls c.args.position ≡ Empty = same-place-of (form_at c.args.heap.now) c.args.row c.args.depth e n ls c.args.depth c.requires.row.0 c.requires.row.1 c.requires.row.2 c.args.position is c.requires.row.3 ∙ c.requires.row.4 in
     let free = place-free e n ls c.args.position none in
     let n' : ℕ = c.with_position-nodes.result in
-    let gains = subst (λ s. Gains s n' c.args.position) read.1 c.with_position-nodes.ensures in
+    let gains = subst (λ s. GainsPosition s n' c.args.position) read.1 c.with_position-nodes.ensures in
     let changed = put-node e n ls c.args.position c.requires.position is.sets n' c.args.node (omega (arith, c.with_position-nodes.type_inv)) free.0 free.1 gains in
-    let small : c.sets_of-entries.result.0 < 2 ^ 32 = omega (arith, read.0, is.sets.entries_small) in
-    let ones : count_ones c.sets_of-entries.result.0 ≡ rank e 32 = count-rank c.sets_of-entries.result.0 small ∙ ap (λ s. rank s 32) read.0 in
-    let at : count_ones c.sets_of-entries.result.0 + c.rank_of.result ≡ rank e 32 + rank n c.args.position = omega (arith, ones, c.rank_of.ensures ∙ ap (λ s. rank s c.args.position) read.1) in
+    let at : c.node_index.result ≡ rank e 32 + rank n c.args.position = omega (arith, c.node_index.ensures, ap (λ s. rank s 32) read.0, ap (λ s. rank s c.args.position) read.1) in
     let links : links_of (row_at c.set_head.new.self c.args.row) ≡ insert ls (rank e 32 + rank n c.args.position) c.args.node =
     c.set_head.ensures.writes.new_links ∙ c.insert_link.ensures.writes.new_links
-    ∙ ap (λ ks. insert ks (count_ones c.sets_of-entries.result.0 + c.rank_of.result) c.args.node) (row-links c.args.heap.now c.args.row c.args.depth e n ls is) ∙ ap (λ i. insert ls i c.args.node) at in
-    record {
-      entries = e;
-      nodes = n';
-      links = insert ls (rank e 32 + rank n c.args.position) c.args.node;
-      row_is = record {
-        row = row-made (row_at c.set_head.new.self c.args.row) _ (insert ls (rank e 32 + rank n c.args.position) c.args.node) c.set_head.ensures.writes.new_head links
-            ∙ ap (λ m. Some (node (trie c.args.depth m n') (insert ls (rank e 32 + rank n c.args.position) c.args.node))) read.0;
-        sets = changed.sets;
-      };
-      puts = changed.here;
-      others = changed.others;
-    }
+    ∙ ap (λ ks. insert ks c.node_index.result c.args.node) (row-links c.args.heap.now c.args.row c.args.depth e n ls is) ∙ ap (λ i. insert ls i c.args.node) at in
+    puts-row c.set_head.new.self c.args.row c.args.depth e n c.args.position ls changed c.set_head.ensures.writes.new_head (ap (λ m. trie c.args.depth m n') read.0) links
 
 pub returns-clause-others : goal.returns-clause-others
 returns-clause-others g c = λ k other. c.set_head.ensures.writes.others k other ∙ c.insert_link.ensures.writes.others k other
@@ -80,13 +60,6 @@ returns-clause-owners g c = λ k. c.set_head.ensures.owners k ∙ c.insert_link.
 
 pub returns-clause-changes : goal.returns-clause-changes
 returns-clause-changes g c = Changes-beside c.insert_link.ensures.changes c.set_head.ensures.changes
-
-pub overflow_add-index : goal.overflow_add-index
-overflow_add-index g c =
-    let is = c.requires.row.3 in
-    let read = c.sets_of-entries.ensures c.args.depth c.requires.row.0 c.requires.row.1 c.requires.row.2 is.row in
-    let small : c.sets_of-entries.result.0 < 2 ^ 32 = omega (arith, read.0, is.sets.entries_small) in
-    omega (arith, count-rank c.sets_of-entries.result.0 small, rank-le c.sets_of-entries.result.0 32, c.rank_of.ensures, rank-le c.sets_of-entries.result.1 c.args.position, c.requires.position)
 
 pub returns-clause-gains : goal.returns-clause-gains
 returns-clause-gains g c =

@@ -1,13 +1,11 @@
-use Rattle.std.proofs.Common.{◌≡◌, ℕ, length, get_or, ap, sym, subst, ◌∙◌, arith, true, Some}
+use Rattle.std.proofs.Common.{◌≡◌, ℕ, length, get_or, ap, sym, subst, ◌∙◌, arith, true}
 use Rattle.std.specs.List.{remove}
-use Rattle.node_heap.specs.Forms.{node, trie, links_of}
+use Rattle.node_heap.specs.Forms.{trie, links_of}
 use Rattle.node_heap.specs.Heap.{row_at}
-use Rattle.node_heap.proofs.Edited.{Changes-beside}
-use Rattle.champ_trie.specs.Bits.{has, rank, Gains}
-use Rattle.champ_trie.proofs.PlaceLemmas.{clear-entry, entry-in}
-use Rattle.edit_trie.proofs.RowLemmas.{node-form, row-links}
-use Rattle.edit_trie.proofs.RowLemmas.{row-made, node-head}
-use Rattle.node_heap.proofs.EditLaws.{Gains-Changes, Gains-trans}
+use Rattle.node_heap.proofs.CallerLemmas.{Changes-beside, Gains-Changes, Gains-trans}
+use Rattle.champ_trie.specs.Bits.{has, rank, GainsPosition}
+use Rattle.champ_trie.proofs.CallerLemmas.{clear-entry, entry-in}
+use Rattle.edit_trie.proofs.RowLemmas.{node-form, row-links, node-head, puts-row}
 use Rattle.edit_trie.proofs.row.take_entry.Goals as goal
 
 pub remove_link-entry-requires-clause-index : goal.remove_link-entry-requires-clause-index
@@ -41,24 +39,13 @@ returns-clause-puts g c = λ e n ls is.
     let same : e ≡ c.requires.row.0 = sym read.0 ∙ (c.sets_of-entries.ensures c.args.depth c.requires.row.0 c.requires.row.1 c.requires.row.2 c.requires.row.3.row).0 in
     let had : has e c.args.position ≡ true = ap (λ s. has s c.args.position) same ∙ c.requires.row.4 in
     let e' : ℕ = c.cleared-entries.result in
-    let lost = subst (λ s. Gains e' s c.args.position) read.0 c.cleared-entries.ensures in
+    let lost = subst (λ s. GainsPosition e' s c.args.position) read.0 c.cleared-entries.ensures in
     let changed = clear-entry e n ls c.args.position c.requires.position is.sets e' (omega (arith, c.cleared-entries.type_inv)) had lost in
     let at : c.rank_of.result ≡ rank e c.args.position = c.rank_of.ensures ∙ ap (λ s. rank s c.args.position) read.0 in
     let links : links_of (row_at c.set_head.new.self c.args.row) ≡ remove ls (rank e c.args.position) =
     c.set_head.ensures.writes.new_links ∙ c.remove_link-entry.ensures.writes.new_links
     ∙ ap (λ ks. remove ks c.rank_of.result) (row-links c.args.heap.now c.args.row c.args.depth e n ls is) ∙ ap (λ i. remove ls i) at in
-    record {
-      entries = e';
-      nodes = n;
-      links = remove ls (rank e c.args.position);
-      row_is = record {
-        row = row-made (row_at c.set_head.new.self c.args.row) _ (remove ls (rank e c.args.position)) c.set_head.ensures.writes.new_head links
-            ∙ ap (λ m. Some (node (trie c.args.depth e' m) (remove ls (rank e c.args.position)))) read.1;
-        sets = changed.sets;
-      };
-      puts = changed.here;
-      others = changed.others;
-    }
+    puts-row c.set_head.new.self c.args.row c.args.depth e n c.args.position ls changed c.set_head.ensures.writes.new_head (ap (λ m. trie c.args.depth e' m) read.1) links
 
 pub returns-clause-others : goal.returns-clause-others
 returns-clause-others g c = λ k other. c.set_head.ensures.writes.others k other ∙ c.remove_link-entry.ensures.writes.others k other

@@ -1,23 +1,17 @@
-use Rattle.std.proofs.Common.{◌≡◌, ℕ, ◌+◌, ◌<◌, ◌^◌, length, get_or, ap, sym, subst, ◌∙◌, arith, true, false, Some}
+use Rattle.std.proofs.Common.{◌≡◌, ℕ, ◌+◌, length, get_or, ap, sym, subst, ◌∙◌, arith, true, false}
 use Rattle.std.specs.List.{remove}
-use Rattle.std.specs.Prelude.{count_ones}
-use Rattle.node_heap.specs.Forms.{node, trie, links_of}
+use Rattle.node_heap.specs.Forms.{trie, links_of}
 use Rattle.node_heap.specs.Heap.{row_at}
-use Rattle.node_heap.proofs.Edited.{Changes-beside}
-use Rattle.champ_trie.specs.Bits.{has, rank, Gains}
-use Rattle.champ_trie.proofs.BitLemmas.{count-rank, rank-le}
-use Rattle.champ_trie.proofs.PlaceLemmas.{clear-node, node-in}
-use Rattle.edit_trie.proofs.RowLemmas.{node-form, row-links}
-use Rattle.edit_trie.proofs.RowLemmas.{row-made, node-head}
-use Rattle.node_heap.proofs.EditLaws.{Gains-Changes, Gains-trans}
+use Rattle.node_heap.proofs.CallerLemmas.{Changes-beside, Gains-Changes, Gains-trans}
+use Rattle.champ_trie.specs.Bits.{has, rank, GainsPosition}
+use Rattle.champ_trie.proofs.CallerLemmas.{clear-node, node-in}
+use Rattle.edit_trie.proofs.RowLemmas.{node-form, row-links, node-head, puts-row}
 use Rattle.edit_trie.proofs.row.take_node.Goals as goal
 
 pub remove_link-node-requires-clause-index : goal.remove_link-node-requires-clause-index
 remove_link-node-requires-clause-index g c =
     let read = c.sets_of-entries.ensures c.args.depth c.requires.row.0 c.requires.row.1 c.requires.row.2 c.requires.row.3.row in
-    let small : c.sets_of-entries.result.0 < 2 ^ 32 = omega (arith, read.0, c.requires.row.3.sets.entries_small) in
-    let ones : count_ones c.sets_of-entries.result.0 ≡ rank c.requires.row.0 32 = count-rank c.sets_of-entries.result.0 small ∙ ap (λ s. rank s 32) read.0 in
-    let at : count_ones c.sets_of-entries.result.0 + c.rank_of.result ≡ rank c.requires.row.0 32 + rank c.requires.row.1 c.args.position = omega (arith, ones, c.rank_of.ensures ∙ ap (λ s. rank s c.args.position) read.1) in
+    let at : c.node_index.result ≡ rank c.requires.row.0 32 + rank c.requires.row.1 c.args.position = omega (arith, c.node_index.ensures, ap (λ s. rank s 32) read.0, ap (λ s. rank s c.args.position) read.1) in
     omega (arith, at, node-in c.requires.row.0 c.requires.row.1 c.requires.row.2 c.args.position c.requires.position c.requires.row.3.sets c.requires.row.5, ap length (row-links c.args.heap.now c.args.row c.args.depth c.requires.row.0 c.requires.row.1 c.requires.row.2 c.requires.row.3))
 
 pub cleared-nodes-requires-clause-there : goal.cleared-nodes-requires-clause-there
@@ -35,39 +29,24 @@ set_head-requires-clause-node g c =
 pub returns-clause-taken : goal.returns-clause-taken
 returns-clause-taken g c = λ e n ls is.
     let read = c.sets_of-entries.ensures c.args.depth e n ls is.row in
-    let small : c.sets_of-entries.result.0 < 2 ^ 32 = omega (arith, read.0, is.sets.entries_small) in
-    let ones : count_ones c.sets_of-entries.result.0 ≡ rank e 32 = count-rank c.sets_of-entries.result.0 small ∙ ap (λ s. rank s 32) read.0 in
-    let at : count_ones c.sets_of-entries.result.0 + c.rank_of.result ≡ rank e 32 + rank n c.args.position = omega (arith, ones, c.rank_of.ensures ∙ ap (λ s. rank s c.args.position) read.1) in
-    c.remove_link-node.ensures.old ∙ ap (λ ks. get_or ks (count_ones c.sets_of-entries.result.0 + c.rank_of.result) 0) (row-links c.args.heap.now c.args.row c.args.depth e n ls is) ∙ ap (λ i. get_or ls i 0) at
+    let at : c.node_index.result ≡ rank e 32 + rank n c.args.position = omega (arith, c.node_index.ensures, ap (λ s. rank s 32) read.0, ap (λ s. rank s c.args.position) read.1) in
+    c.remove_link-node.ensures.old ∙ ap (λ ks. get_or ks c.node_index.result 0) (row-links c.args.heap.now c.args.row c.args.depth e n ls is) ∙ ap (λ i. get_or ls i 0) at
 
 pub returns-clause-puts : goal.returns-clause-puts
 returns-clause-puts g c = λ e n ls is.
     let read = c.sets_of-entries.ensures c.args.depth e n ls is.row in
-    let small : c.sets_of-entries.result.0 < 2 ^ 32 = omega (arith, read.0, is.sets.entries_small) in
-    let ones : count_ones c.sets_of-entries.result.0 ≡ rank e 32 = count-rank c.sets_of-entries.result.0 small ∙ ap (λ s. rank s 32) read.0 in
-    let at : count_ones c.sets_of-entries.result.0 + c.rank_of.result ≡ rank e 32 + rank n c.args.position = omega (arith, ones, c.rank_of.ensures ∙ ap (λ s. rank s c.args.position) read.1) in
+    let at : c.node_index.result ≡ rank e 32 + rank n c.args.position = omega (arith, c.node_index.ensures, ap (λ s. rank s 32) read.0, ap (λ s. rank s c.args.position) read.1) in
     let same_e : e ≡ c.requires.row.0 = sym read.0 ∙ (c.sets_of-entries.ensures c.args.depth c.requires.row.0 c.requires.row.1 c.requires.row.2 c.requires.row.3.row).0 in
     let same_n : n ≡ c.requires.row.1 = sym read.1 ∙ (c.sets_of-entries.ensures c.args.depth c.requires.row.0 c.requires.row.1 c.requires.row.2 c.requires.row.3.row).1 in
     let gone : has e c.args.position ≡ false = ap (λ s. has s c.args.position) same_e ∙ c.requires.row.4 in
     let had : has n c.args.position ≡ true = ap (λ s. has s c.args.position) same_n ∙ c.requires.row.5 in
     let n' : ℕ = c.cleared-nodes.result in
-    let lost = subst (λ s. Gains n' s c.args.position) read.1 c.cleared-nodes.ensures in
+    let lost = subst (λ s. GainsPosition n' s c.args.position) read.1 c.cleared-nodes.ensures in
     let changed = clear-node e n ls c.args.position c.requires.position is.sets n' (omega (arith, c.cleared-nodes.type_inv)) gone had lost in
     let links : links_of (row_at c.set_head.new.self c.args.row) ≡ remove ls (rank e 32 + rank n c.args.position) =
     c.set_head.ensures.writes.new_links ∙ c.remove_link-node.ensures.writes.new_links
-    ∙ ap (λ ks. remove ks (count_ones c.sets_of-entries.result.0 + c.rank_of.result)) (row-links c.args.heap.now c.args.row c.args.depth e n ls is) ∙ ap (λ i. remove ls i) at in
-    record {
-      entries = e;
-      nodes = n';
-      links = remove ls (rank e 32 + rank n c.args.position);
-      row_is = record {
-        row = row-made (row_at c.set_head.new.self c.args.row) _ (remove ls (rank e 32 + rank n c.args.position)) c.set_head.ensures.writes.new_head links
-            ∙ ap (λ m. Some (node (trie c.args.depth m n') (remove ls (rank e 32 + rank n c.args.position)))) read.0;
-        sets = changed.sets;
-      };
-      puts = changed.here;
-      others = changed.others;
-    }
+    ∙ ap (λ ks. remove ks c.node_index.result) (row-links c.args.heap.now c.args.row c.args.depth e n ls is) ∙ ap (λ i. remove ls i) at in
+    puts-row c.set_head.new.self c.args.row c.args.depth e n c.args.position ls changed c.set_head.ensures.writes.new_head (ap (λ m. trie c.args.depth m n') read.0) links
 
 pub returns-clause-others : goal.returns-clause-others
 returns-clause-others g c = λ k other. c.set_head.ensures.writes.others k other ∙ c.remove_link-node.ensures.writes.others k other
@@ -77,13 +56,6 @@ returns-clause-owners g c = λ k. c.set_head.ensures.owners k ∙ c.remove_link-
 
 pub returns-clause-changes : goal.returns-clause-changes
 returns-clause-changes g c = Changes-beside c.remove_link-node.ensures.changes c.set_head.ensures.changes
-
-pub overflow_add-index : goal.overflow_add-index
-overflow_add-index g c =
-    let is = c.requires.row.3 in
-    let read = c.sets_of-entries.ensures c.args.depth c.requires.row.0 c.requires.row.1 c.requires.row.2 is.row in
-    let small : c.sets_of-entries.result.0 < 2 ^ 32 = omega (arith, read.0, is.sets.entries_small) in
-    omega (arith, count-rank c.sets_of-entries.result.0 small, rank-le c.sets_of-entries.result.0 32, c.rank_of.ensures, rank-le c.sets_of-entries.result.1 c.args.position, c.requires.position)
 
 pub returns-clause-gains : goal.returns-clause-gains
 returns-clause-gains g c =

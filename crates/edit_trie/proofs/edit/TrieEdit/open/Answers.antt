@@ -3,15 +3,14 @@ use Rattle.elem_core.specs.declared.codes.TheConstants.{DEEPEST}
 use Rattle.node_heap.specs.Forms.{is_node}
 use Rattle.node_heap.specs.Heap.{row_at, form_at}
 use Rattle.node_heap.specs.Owner.{by_hold}
-use Rattle.node_heap.proofs.Frames.{Extends-trans}
+use Rattle.node_heap.proofs.CallerLemmas.{Extends-trans, IsOwned, owns, owned-hold, after-room}
 use Rattle.champ_trie.specs.Trie.{code_by}
-use Rattle.champ_trie.proofs.ShareLemmas.{row-at}
+use Rattle.champ_trie.proofs.CallerLemmas.{row-at}
 use Rattle.champ_kinds.specs.Root.{Root}
 use Rattle.champ_kinds.specs.Kinds.{HasEntries, IsMapOf}
 use Rattle.edit_trie.specs.Edit.{by_bits}
 use Rattle.edit_trie.proofs.RowLemmas.{node-form}
-use Rattle.node_heap.proofs.OwnedRows.{IsOwned, owns, owned-hold, after-room}
-use Rattle.edit_trie.proofs.OwnTop.{map-top, edits-top}
+use Rattle.edit_trie.proofs.MapTop.{map-top, edits-top}
 use Rattle.edit_trie.proofs.MapLemmas.{entries-owned}
 use Rattle.edit_trie.proofs.edit.TrieEdit.open.Given.{Over}
 use Rattle.edit_trie.proofs.edit.TrieEdit.open.Goals as goal

@@ -1,47 +1,36 @@
-use Rattle.std.proofs.Common.{◌≡◌, ◌≢◌, ℕ, ◌<◌, List, length, get_or, refl, ap, sym, subst, ◌∙◌, arith, IsSome, not, Some, None}
+use Rattle.std.proofs.Common.{◌≡◌, ◌≢◌, ℕ, ◌<◌, List, length, refl, ap, sym, subst, ◌∙◌, arith, IsSome, not, Some, None}
 use Rattle.std.specs.declared.cmp.Ordering.{Ordering}
 use Rattle.elem_core.specs.Codes.{masked_code}
 use Rattle.elem_core.specs.declared.codes.TheConstants.{DEEPEST}
 use Rattle.node_heap.specs.Links.{Reaches}
-use Rattle.node_heap.specs.Forms.{is_node, links_of}
 use Rattle.node_heap.specs.Heap.{Heap, row_at, form_at, links_at, holds_at, one_at}
-use Rattle.node_heap.specs.Calls.{SameRows, Gains}
+use Rattle.node_heap.specs.Calls.{Gains}
 use Rattle.node_heap.specs.InPlace.{child_at}
 use Rattle.node_heap.specs.Owner.{by_hold}
-use Rattle.node_heap.proofs.EditLaws.{Gains-trans, Gains-Builds}
-use Rattle.node_heap.proofs.OwnerLemmas.{held-root}
-use Rattle.node_heap.proofs.RoomLemmas.{KeepsToNeed-more}
+use Rattle.node_heap.proofs.CallerLemmas.{count-one, Gains-trans, KeepsToNeed-more, IsOwned}
 use Rattle.champ_chain.specs.Entry.{link_with, others, has_key}
-use Rattle.champ_chain.proofs.FrameLemmas.{forms-same}
-use Rattle.champ_chain.proofs.SetLemmas.{same-filter}
-use Rattle.champ_chain.proofs.WithLemmas.{not-ok, err-not-ok}
+use Rattle.champ_chain.proofs.CallerLemmas.{one_at-same, same-filter, not-ok, err-not-ok}
 use Rattle.champ_trie.specs.Trie.{code_by}
 use Rattle.champ_trie.specs.Reach.{alike_in}
-use Rattle.champ_trie.proofs.CanonLemmas.{takes-any-order, has-one-set}
-use Rattle.champ_trie.proofs.ShareLemmas.{row-at}
+use Rattle.champ_trie.proofs.CallerLemmas.{takes-any-order, has-one-set, row-at}
 use Rattle.champ_kinds.specs.Root.{Root}
 use Rattle.champ_kinds.specs.Binding.{Binding, alike_keys}
 use Rattle.champ_kinds.specs.Kinds.{IsMapOf}
-use Rattle.champ_kinds.proofs.EditLemmas.{pairs-kept}
-use Rattle.champ_kinds.proofs.PairLemmas.{IsFound, found-pairs, alike-pairs, absent-map, absent-trie}
-use Rattle.champ_kinds.proofs.PairRows.{links-read, pair-live}
-use Rattle.champ_kinds.proofs.StayLemmas.{map-seen, entries-seen}
+use Rattle.champ_kinds.proofs.CallerLemmas.{IsFound, found-pairs, alike-pairs, absent-map, absent-trie, links-read, pair-live, map-seen, entries-seen}
 use Rattle.edit_trie.specs.Edit.{by_bits, CutsKey}
-use Rattle.edit_trie.specs.Walk.{CanEdit, CutsIn}
+use Rattle.edit_trie.specs.Walk.{CanEditBelow, CutsIn}
 use Rattle.edit_trie.proofs.RowLemmas.{node-form}
 use Rattle.edit_trie.proofs.ChainLemmas.{read-child}
-use Rattle.edit_trie.proofs.ChainCutLemmas.{hold-change}
-use Rattle.node_heap.proofs.OwnedRows.{Owns, IsOwned, owns, owned-hold, after-room, makes-came, to-need}
-use Rattle.edit_trie.proofs.RootLemmas.{released-need}
-use Rattle.edit_trie.proofs.OwnTop.{can-top}
-use Rattle.edit_trie.proofs.CutTop.{value-off, value-live, cut-held, entries-new, cuts-key}
+use Rattle.edit_trie.proofs.ChainEdits.{hold-change}
+use Rattle.edit_trie.proofs.RootLemmas.{is-owned, released-need}
+use Rattle.edit_trie.proofs.MapTop.{can-top, value-off, value-live, cut-held, entries-new, cuts-key}
 use Rattle.edit_trie.proofs.edit.TrieEdit.remove.Given.{Over}
 use Rattle.edit_trie.proofs.edit.TrieEdit.remove.Goals as goal
 use Rattle.edit_trie.proofs.edit.TrieEdit.remove.Goals.{After-masked-code}
 
--- the pair that was found, once room was made
-found-row : {T : Type 0} {cmp : T → T → Ordering} {code : T → ℕ} {old : Heap T} {root : Root} {key : T} {x : ℕ} {M : List (Binding T)} (one : Heap T) → SameRows old one → (is : IsMapOf cmp code old root M) → link_with cmp key is.entries ≡ Some x → IsFound (form_at one) cmp key is.entries M x
-found-row {cmp = cmp} {old = old} {key = key} {x = x} {M = M} one rows is found = found-pairs (form_at one) cmp key is.entries M x (pairs-kept (form_at old) (form_at one) (forms-same old one rows) is.entries M is.pairs) found
+-- the pair that was found
+found-row : {T : Type 0} {cmp : T → T → Ordering} {code : T → ℕ} {old : Heap T} {root : Root} {key : T} {x : ℕ} {M : List (Binding T)} → (is : IsMapOf cmp code old root M) → link_with cmp key is.entries ≡ Some x → IsFound (form_at old) cmp key is.entries M x
+found-row {cmp = cmp} {old = old} {key = key} {x = x} {M = M} is found = found-pairs (form_at old) cmp key is.entries M x is.pairs found
 
 -- the root has no depth
 at-root : {A : Type 0} → 0 < 0 → A
@@ -61,26 +50,17 @@ module _ (g : Over) (c : After-masked-code g) where
   abbrev old : Heap g.row.T.Denot
   old = c.args.heap.now
 
-  abbrev one : Heap g.row.T.Denot
-  one = c.reserve.new.self
-
   abbrev mid : Heap g.row.T.Denot
-  mid = c.own-self-inside.new.self
+  mid = c.own_root.new.heap
 
   abbrev r : ℕ
-  r = c.own-self-inside.result
-
-  hold : Owns one mid root r
-  hold =
-      let room = c.in_ok-reserve.ensures.rest in
-      let did = c.own-self-inside.ensures in
-      owns refl room.graph (omega (arith, c.requires.held, room.holds root, ap (λ (q : Root). holds_at old q.root) c.self.view_is)) did.same did.row did.sole did.fresh did.owners did.builds did.makes
+  r = c.in_ok-self-inside.field-0
 
   own : IsOwned (by_hold root) old mid r
-  own = after-room c.in_ok-reserve.ensures.rest (owned-hold hold)
+  own = is-owned c.in_ok-self-inside.ensures.owns
 
   held : 0 < holds_at mid r
-  held = held-root hold.graph hold.held hold.sole hold.builds
+  held = omega (arith, c.in_ok-self-inside.ensures.owns.held r, count-one r r, one_at-same r)
 
   code-is : c.masked-code.result ≡ code_by g.T.Element.code_of c.self.inside.bits key
   code-is = c.masked-code.ensures.kept ∙ ap (λ n. masked_code n c.self.inside.bits) c.code.ensures
@@ -94,13 +74,12 @@ module _ (g : Over) (c : After-masked-code g) where
 
     value-is : c.index-links-1.result ≡ child_at old x 1
     value-is =
-        let rows = c.in_ok-reserve.ensures.rest.rows in
-        let long : 1 < length (links_at one x) = omega (arith, ap length c.links.ensures.links, ap length (links-read one (found-row one rows is found).pair c.links.result.now c.links.ensures.links)) in
-        read-child c.links.result.now (links_at one x) 1 c.index-links-1.result c.links.ensures.links long c.index-links-1.is ∙ ap (λ w. get_or (links_of w) 1 0) (rows x)
+        let long : 1 < length (links_at old x) = omega (arith, ap length c.links.ensures.links, ap length (links-read old (found-row is found).pair c.links.result.now c.links.ensures.links)) in
+        read-child c.links.result.now (links_at old x) 1 c.index-links-1.result c.links.ensures.links long c.index-links-1.is
 
-    can : CanEdit g.T.Ord.cmp (code_by g.T.Element.code_of c.self.inside.bits) mid DEEPEST 0 r c.masked-code.result is.entries
-    can = subst (λ n. CanEdit g.T.Ord.cmp (code_by g.T.Element.code_of c.self.inside.bits) mid DEEPEST 0 r n is.entries) (sym code-is)
-        (can-top g.T.Ord.cmp g.T.Element.code_of g.met.T.Ord.total (by_hold root) c.self.inside.bits old mid r own M is key c.own-self-inside.ensures.builds.graph)
+    can : CanEditBelow g.T.Ord.cmp (code_by g.T.Element.code_of c.self.inside.bits) mid DEEPEST 0 r c.masked-code.result is.entries
+    can = subst (λ n. CanEditBelow g.T.Ord.cmp (code_by g.T.Element.code_of c.self.inside.bits) mid DEEPEST 0 r n is.entries) (sym code-is)
+        (can-top g.met.T.Ord.total own is key c.in_ok-self-inside.ensures.owns.graph)
 
     -- the key was taken out
     module _ {four : Heap g.row.T.Denot} {cut : ℕ} (made : CutsIn g.T.Ord.cmp (code_by g.T.Element.code_of c.self.inside.bits) mid four DEEPEST 0 r c.masked-code.result is.entries key cut) where
@@ -108,13 +87,13 @@ module _ (g : Over) (c : After-masked-code g) where
       did = subst (λ n. CutsIn g.T.Ord.cmp (code_by g.T.Element.code_of c.self.inside.bits) mid four DEEPEST 0 r n is.entries key cut) code-is made
 
       live : IsSome (row_at four c.index-links-1.result)
-      live = value-live g.T.Ord.cmp g.T.Element.code_of g.met.T.Ord.total (by_hold root) c.self.inside.bits old mid four four four r cut c.index-links-1.result x own held M is key found value-is c.own-self-inside.ensures.builds.graph did
+      live = value-live g.met.T.Ord.total own is key held found value-is c.in_ok-self-inside.ensures.owns.graph did
 
       off : ¬ Reaches (links_at four) c.index-links-1.result r
-      off = value-off g.T.Ord.cmp g.T.Element.code_of g.met.T.Ord.total (by_hold root) c.self.inside.bits old mid four four four r cut c.index-links-1.result x own held M is key found value-is c.own-self-inside.ensures.builds.graph did
+      off = value-off g.met.T.Ord.total own is key held found value-is c.in_ok-self-inside.ensures.owns.graph did
 
       cut-more : one_at r cut < holds_at four cut
-      cut-more = cut-held g.T.Ord.cmp g.T.Element.code_of g.met.T.Ord.total (by_hold root) c.self.inside.bits old mid four four four r cut c.index-links-1.result x own held M is key found value-is c.own-self-inside.ensures.builds.graph did
+      cut-more = cut-held g.met.T.Ord.total own is key held found value-is c.in_ok-self-inside.ensures.owns.graph did
 
 pub returns-in_default-clause-none : goal.returns-in_default-clause-none
 returns-in_default-clause-none g c = λ M here.
@@ -122,55 +101,62 @@ returns-in_default-clause-none g c = λ M here.
     let look = c.look_up-found.ensures.entry is.entries is.rooted.trie in
     (λ e. absent-map (form_at c.args.heap.now) g.T.Ord.cmp (g.P.Probe.stands_for c.args.key.now) is.entries M is.pairs (sym look ∙ c.in_default.is), λ none. refl)
 
-pub returns-in_err-reserve-clause-none : goal.returns-in_err-reserve-clause-none
-returns-in_err-reserve-clause-none g c = λ M here.
+pub returns-in_err-self-inside-clause-none : goal.returns-in_err-self-inside-clause-none
+returns-in_err-self-inside-clause-none g c = λ M here.
     let is = map-seen c.self.view_is here in
     let look = c.look_up-found.ensures.entry is.entries is.rooted.trie in (
       λ e. absurd (err-not-ok c.from_residual.result _ c.from_residual.ensures.0 e),
       λ none. absurd (let bad : None ≡ Some c.in-Some.pair = sym (look ∙ absent-trie (form_at c.args.heap.now) g.T.Ord.cmp (g.P.Probe.stands_for c.args.key.now) is.entries M is.pairs none) ∙ c.in-Some.is in cc),
     )
 
-pub returns-in_err-reserve-clause-ample : goal.returns-in_err-reserve-clause-ample
-returns-in_err-reserve-clause-ample g c = λ M here spares.
+pub returns-in_err-self-inside-clause-ample : goal.returns-in_err-self-inside-clause-ample
+returns-in_err-self-inside-clause-ample g c = λ M here spares.
     let code = g.T.Element.code_of in
     let key = g.P.Probe.stands_for c.args.key.now in
     let is = map-seen c.self.view_is here in
     let number = ap (λ (q : Root). alike_keys code q.bits key M) c.self.view_is in
     let alike = alike-pairs (form_at c.args.heap.now) code c.self.inside.bits key is.entries M is.pairs in
-    absurd (not-ok c.reserve.result _ c.in_err-reserve.was (c.reserve.ensures.ample (omega arith) (omega (arith, c.from.ensures, c.look_up-found.ensures.alike is.entries is.rooted.trie, alike, number, spares.1))))
+    absurd (not-ok c.own_root.result _ c.in_err-self-inside.was (c.own_root.ensures.ample (omega arith, omega (arith, c.from.ensures, c.look_up-found.ensures.alike is.entries is.rooted.trie, alike, number, spares.1))))
 
 pub links-requires : goal.links-requires
 links-requires g c =
     let is = map-seen c.self.view_is c.requires.contents.1 in
     let look = c.look_up-found.ensures.entry is.entries is.rooted.trie in
-    pair-live c.reserve.new.self (found-row c.reserve.new.self c.in_ok-reserve.ensures.rest.rows is (sym look ∙ c.in-Some.is)).pair
+    pair-live c.args.heap.now (found-row is (sym look ∙ c.in-Some.is)).pair
 
 pub bounds-links-1 : goal.bounds-links-1
 bounds-links-1 g c =
     let is = map-seen c.self.view_is c.requires.contents.1 in
     let look = c.look_up-found.ensures.entry is.entries is.rooted.trie in
-    let f = found-row c.reserve.new.self c.in_ok-reserve.ensures.rest.rows is (sym look ∙ c.in-Some.is) in
-    subst (λ xs. 1 < length xs) (sym (links-read c.reserve.new.self f.pair c.links.result.now c.links.ensures.links)) (omega arith)
+    let f = found-row is (sym look ∙ c.in-Some.is) in
+    subst (λ xs. 1 < length xs) (sym (links-read c.args.heap.now f.pair c.links.result.now c.links.ensures.links)) (omega arith)
 
-pub own-self-inside-requires-clause-node : goal.own-self-inside-requires-clause-node
-own-self-inside-requires-clause-node g c =
+pub own_root-requires-clause-owner : goal.own_root-requires-clause-owner
+own_root-requires-clause-owner g c =
+    let some : 0 < holds_at c.args.heap.now c.self.inside.root = omega (arith, c.requires.held, ap (λ (q : Root). holds_at c.args.heap.now q.root) c.self.view_is) in
+    some
+
+pub own_root-requires-clause-node : goal.own_root-requires-clause-node
+own_root-requires-clause-node g c =
     let old = c.args.heap.now in
     let is = map-seen c.self.view_is c.requires.contents.1 in
     let at = row-at g.T.Ord.cmp (code_by g.T.Element.code_of c.self.inside.bits) (form_at old) DEEPEST 0 c.self.inside.root is.entries is.rooted.trie.trie in
-    ap is_node (c.in_ok-reserve.ensures.rest.rows c.self.inside.root) ∙ node-form (row_at old c.self.inside.root) _ at.2 at.3.row
+    node-form (row_at old c.self.inside.root) _ at.2 at.3.row
 
 pub cut_below-cut-requires-clause-row : goal.cut_below-cut-requires-clause-row
 cut_below-cut-requires-clause-row g c =
     let way = (goal.at.cut_below-cut-requires-clause-row g c).After-masked-code in
-    let is = map-seen c.self.view_is c.requires.contents.1 in
-    let builds = c.own-self-inside.ensures.builds in (
+    let is = map-seen c.self.view_is c.requires.contents.1 in (
       is.entries,
       DEEPEST,
       can g way is,
       there g way is,
       at-root,
-      omega (arith, c.from.ensures, c.look_up-found.ensures.alike is.entries is.rooted.trie, ap (λ n. alike_in (code_by g.T.Element.code_of c.self.inside.bits) n is.entries) (code-is g way), c.in_ok-reserve.ensures.spares.1, builds.makes.spare_nodes, builds.few_nodes),
+      omega (arith, c.from.ensures, c.look_up-found.ensures.alike is.entries is.rooted.trie, ap (λ n. alike_in (code_by g.T.Element.code_of c.self.inside.bits) n is.entries) (code-is g way), c.in_ok-self-inside.ensures.owns.spares.1),
     )
+
+pub cut_below-cut-requires-clause-few : goal.cut_below-cut-requires-clause-few
+cut_below-cut-requires-clause-few g c = omega (arith, c.requires.few, c.in_ok-self-inside.ensures.owns.total)
 
 pub hold-requires-clause-live : goal.hold-requires-clause-live
 hold-requires-clause-live g c =
@@ -183,7 +169,7 @@ hold-requires-clause-few g c =
     let way = (goal.at.hold-requires-clause-few g c).After-masked-code in
     let is = map-seen c.self.view_is c.requires.contents.1 in
     let made = c.cut_below-cut.ensures is.entries DEEPEST (can g way is) (there g way is) at-root in
-    omega (arith, c.requires.few, c.in_ok-reserve.ensures.rest.count, c.own-self-inside.ensures.builds.total, made.changes.trades.total)
+    omega (arith, c.requires.few, c.in_ok-self-inside.ensures.owns.total, made.changes.trades.total)
 
 pub release-requires : goal.release-requires
 release-requires g c =
@@ -199,12 +185,12 @@ returns-clause-cuts g c = λ M here.
     let is = map-seen c.self.view_is here in
     let four = c.cut_below-cut.new.heap in
     let new = c.release.new.self in
-    let r = c.own-self-inside.result in
+    let r = r g way in
     let value = c.index-links-1.result in
     let made = c.cut_below-cut.ensures is.entries DEEPEST (can g way is) (there g way is) at-root in
     let kept = hold-change r value made.changes.trades.graph c.hold.ensures.graph c.hold.ensures.rows c.hold.ensures.holds c.hold.ensures.owners c.hold.ensures.makes c.hold.ensures.count c.hold.ensures.extends (off g way is made) in
-    let came = makes-came c.in_ok-reserve.ensures.rest (Gains-trans (Gains-Builds c.own-self-inside.ensures.builds) made.gains) in
-    let cuts = cuts-key cmp code g.met.T.Ord.total (by_hold c.self.inside.root) c.self.inside.bits c.args.heap.now c.own-self-inside.new.self four c.hold.new.self new r c.cut_below-cut.result value c.in-Some.pair (own g way) (held g way) M is (key g way) (found g way is) (value-is g way is) c.own-self-inside.ensures.builds.graph (did g way is made)
+    let came = (c.in_ok-self-inside.ensures.owns.makes four made.gains).0 in
+    let cuts = cuts-key g.met.T.Ord.total (own g way) is (key g way) (held g way) (found g way is) (value-is g way is) c.in_ok-self-inside.ensures.owns.graph (did g way is made)
     c.hold.ensures.rows c.hold.ensures.holds c.hold.ensures.owners kept c.release.ensures.releases c.release.ensures.graph c.release.ensures.below came c.hold.ensures.makes in
     subst (λ (q : Root). CutsKey cmp code (by_hold q.root) q.bits c.args.heap.now new r M (key g way) value) c.self.view_is cuts
 
@@ -219,11 +205,11 @@ returns-clause-entries g c = λ E here.
     let M = c.requires.contents.0 in
     let is = map-seen c.self.view_is c.requires.contents.1 in
     let new = c.release.new.self in
-    let r = c.own-self-inside.result in
+    let r = r g way in
     let value = c.index-links-1.result in
     let made = c.cut_below-cut.ensures is.entries DEEPEST (can g way is) (there g way is) at-root in
     let kept = hold-change r value made.changes.trades.graph c.hold.ensures.graph c.hold.ensures.rows c.hold.ensures.holds c.hold.ensures.owners c.hold.ensures.makes c.hold.ensures.count c.hold.ensures.extends (off g way is made) in
-    let cuts = entries-new cmp code total (by_hold c.self.inside.root) bits old c.own-self-inside.new.self c.cut_below-cut.new.heap c.hold.new.self new r c.cut_below-cut.result value c.in-Some.pair (own g way) (held g way) M is (key g way) (found g way is) (value-is g way is) c.own-self-inside.ensures.builds.graph (did g way is made)
+    let cuts = entries-new total (own g way) is (key g way) (held g way) (found g way is) (value-is g way is) c.in_ok-self-inside.ensures.owns.graph (did g way is made)
     c.hold.ensures.rows c.hold.ensures.holds c.hold.ensures.owners kept c.release.ensures.releases c.release.ensures.graph c.release.ensures.below in
     let mine = entries-seen c.self.view_is here in
     let same = has-one-set cmp (code_by code bits) total (form_at old) c.self.inside.root is.entries E is.rooted.trie mine.trie in
@@ -245,8 +231,8 @@ returns-clause-spares g c = λ M here.
     let is = map-seen c.self.view_is here in
     let made = c.cut_below-cut.ensures is.entries DEEPEST (can g way is) (there g way is) at-root in
     let kept : Gains c.cut_below-cut.new.heap c.hold.new.self = record { stays = c.hold.ensures.extends.live; cells = 0; nodes = 0; makes = c.hold.ensures.makes } in
-    let gains = Gains-trans (Gains-Builds c.own-self-inside.ensures.builds) (Gains-trans made.gains kept) in
-    let all = released-need (to-need c.in_ok-reserve.ensures.rest gains c.in_ok-reserve.ensures.greater) c.release.ensures.releases in
+    let need = (c.in_ok-self-inside.ensures.owns.makes c.hold.new.self (Gains-trans made.gains kept)).1 in
+    let all = released-need need c.release.ensures.releases in
     let alike = alike-pairs (form_at c.args.heap.now) code c.self.inside.bits (key g way) is.entries M is.pairs in
     let number = ap (λ (q : Root). alike_keys code q.bits (key g way) M) c.self.view_is in
     KeepsToNeed-more 0 _ (omega arith) (omega (arith, c.from.ensures, c.look_up-found.ensures.alike is.entries is.rooted.trie, alike, number)) all
