@@ -1,7 +1,6 @@
 -- The merge of two roots.
-use Rattle.std.proofs.Common.{◌≡◌, ◌≢◌, ℕ, zero, suc, ◌+◌, ◌*◌, ◌<◌, ◌≤◌, List, [], ◌∷◌, length, drop, get_or, refl, ap, sym, subst, ◌∙◌, arith, true, false, cond, IsSome, inl, inr, ◌⊎◌}
+use Rattle.std.proofs.Common.{◌≡◌, ◌≢◌, ℕ, zero, suc, ◌+◌, ◌*◌, ◌<◌, ◌≤◌, List, [], ◌∷◌, length, drop, refl, ap, sym, subst, ◌∙◌, arith, true, false, cond, IsSome, inl, inr, ◌⊎◌}
 use Rattle.std.specs.Prelude.{◌==◌}
-use Rattle.std.specs.List.{flat_map}
 use Rattle.std.specs.Option.{option_map}
 use Rattle.std.specs.Cmp.{IsTotalOrder}
 use Rattle.std.specs.declared.cmp.Ordering.{Ordering}
@@ -12,12 +11,11 @@ use Rattle.node_heap.specs.Forms.{form_of, links_of}
 use Rattle.node_heap.specs.Heap.{Heap, form_at, row_at, IsGraph, row_limit}
 use Rattle.node_heap.specs.Calls.{SameRows, Extends, Unchanged, HasGreater, Builds}
 use Rattle.node_heap.proofs.Frames.{Extends-Unchanged}
-use Rattle.node_heap.proofs.BuildLemmas.{count-cons, count-append, Builds-made}
+use Rattle.node_heap.proofs.BuildLemmas.{count-cons, Builds-made}
 use Rattle.champ_chain.specs.Entry.{Entry, AreDistinct}
 use Rattle.champ_chain.proofs.FrameLemmas.{KeepsForms, links-form}
-use Rattle.champ_trie.specs.Trie.{IsTrie, IsCanon, IsRowOfPlaces, part, code_by, links_at_place}
+use Rattle.champ_trie.specs.Trie.{IsTrie, IsCanon, IsRow, part, code_by}
 use Rattle.champ_trie.specs.Walk.{entry_count, row_links}
-use Rattle.champ_trie.specs.declared.place.Place.{Place}
 use Rattle.champ_trie.specs.declared.place.Place.TheVariants.{Empty, Node}
 use Rattle.champ_trie.proofs.PartLemmas.{place-kept, row-kept}
 use Rattle.champ_trie.proofs.WalkLemmas.{canon-fit}
@@ -26,6 +24,7 @@ use Rattle.same_value.specs.Apart.{HasApart}
 use Rattle.set_merge.specs.declared.keeps.Keeps.{Keeps}
 use Rattle.set_merge.specs.declared.spread.Spread.{Spread}
 use Rattle.set_merge.specs.Side.{place_in}
+use Rattle.set_merge.specs.Spread.{standing, IsBlank}
 use Rattle.set_merge.specs.Merge.{merged}
 use Rattle.set_merge.specs.Need.{rows_need, merge_need}
 use Rattle.set_merge.specs.Walk.{AreSides, IsSpread}
@@ -39,10 +38,6 @@ drop-count : (k n : ℕ) (xs : List ℕ) → count k (drop n xs) ≤ count k xs
 drop-count k zero xs = omega arith
 drop-count k (suc n) [] = omega arith
 drop-count k (suc n) (x ∷ xs) = omega (arith, count-cons k x xs, drop-count k n xs)
-
-pub flat-empty : (l : ℕ) (ps : List Place) → ((p : ℕ) → get_or ps p Empty ≡ Empty) → count l (flat_map links_at_place ps) ≡ 0
-flat-empty l [] none = omega arith
-flat-empty l (p ∷ ps) none = omega (arith, count-append l (links_at_place p) (flat_map links_at_place ps), ap (λ q. count l (links_at_place q)) (none 0), flat-empty l ps (λ i. none (suc i)))
 
 module _ {T : Type 0} where
   -- rows below a row are further down
@@ -100,7 +95,7 @@ module _ {T : Type 0} where
       root-first so =
           let row = first.trie in
           record {
-            trie = row-stands cmp code (form_at mid) DEEPEST 0 (λ p. get_or s.places p Empty) (merged cmp k E D) is.places a row.entries row.nodes row.links
+            trie = row-stands cmp code (form_at mid) DEEPEST 0 (standing s) (merged cmp k E D) is.places a row.entries row.nodes row.links
                 (row-kept cmp code (form_at h) (form_at mid) keeps a 0 row.entries row.nodes row.links row.row) (λ p low. sym (is.as_first so p low ∙ ap (λ r. place_in r p) row.row.row));
             distinct = merged-apart;
           }
@@ -110,7 +105,7 @@ module _ {T : Type 0} where
       root-second so =
           let row = second.trie in
           record {
-            trie = row-stands cmp code (form_at mid) DEEPEST 0 (λ p. get_or s.places p Empty) (merged cmp k E D) is.places b row.entries row.nodes row.links
+            trie = row-stands cmp code (form_at mid) DEEPEST 0 (standing s) (merged cmp k E D) is.places b row.entries row.nodes row.links
                 (row-kept cmp code (form_at h) (form_at mid) keeps b 0 row.entries row.nodes row.links row.row) (λ p low. sym (is.as_second so p low ∙ ap (λ r. place_in r p) row.row.row));
             distinct = merged-apart;
           }
@@ -120,10 +115,10 @@ module _ {T : Type 0} where
       root-stood root (inr two) = subst (λ l. IsCanon cmp code (form_at mid) l (merged cmp k E D)) (sym two.1) (root-second two.0)
 
       -- a new root
-      pub root-made : (new : Heap T) (l : ℕ) → KeepsForms (form_at mid) (form_at new) → IsRowOfPlaces (form_at new) l 0 s.places → IsCanon cmp code (form_at new) l (merged cmp k E D)
+      pub root-made : (new : Heap T) (l : ℕ) → KeepsForms (form_at mid) (form_at new) → IsRow (form_at new) l 0 s.entries s.nodes s.links → IsCanon cmp code (form_at new) l (merged cmp k E D)
       root-made new l later row = record {
-        trie = row-stands cmp code (form_at new) DEEPEST 0 (λ p. get_or s.places p Empty) (merged cmp k E D)
-            (λ p low. place-kept cmp code (form_at mid) (form_at new) later DEEPEST 1 (get_or s.places p Empty) (part cmp code 0 p (merged cmp k E D)) (is.places p low)) l row.entries row.nodes row.links row.row row.at;
+        trie = row-stands cmp code (form_at new) DEEPEST 0 (standing s) (merged cmp k E D)
+            (λ p low. place-kept cmp code (form_at mid) (form_at new) later DEEPEST 1 (standing s p) (part cmp code 0 p (merged cmp k E D)) (is.places p low)) l s.entries s.nodes s.links row (λ p low. refl);
         distinct = merged-apart;
       }
 
@@ -132,10 +127,10 @@ module _ {T : Type 0} where
     root-alive mid P Q root more (inr two) = subst (λ l. IsSome (row_at mid l)) (sym two.1) (more.live b (canon-live cmp code h b D second))
 
     -- the row of nothing
-    pub root-empty : (new : Heap T) (l : ℕ) (ps : List Place) → ((p : ℕ) → get_or ps p Empty ≡ Empty) → a ≡ b → k.both ≡ false → IsRowOfPlaces (form_at new) l 0 ps → IsCanon cmp code (form_at new) l (merged cmp k E D)
-    root-empty new l ps empty same not row =
+    pub root-empty : (new : Heap T) (l : ℕ) (s : Spread) → IsBlank s → a ≡ b → k.both ≡ false → IsRow (form_at new) l 0 s.entries s.nodes s.links → IsCanon cmp code (form_at new) l (merged cmp k E D)
+    root-empty new l s blank same not row =
         subst (IsCanon cmp code (form_at new) l) (sym (one-merged same ∙ ap (λ t. cond t E []) not)) (record {
-          trie = row-stands cmp code (form_at new) DEEPEST 0 (λ p. Empty) [] (λ p low. refl) l row.entries row.nodes row.links row.row (λ p low. row.at p low ∙ empty p);
+          trie = row-stands cmp code (form_at new) DEEPEST 0 (λ p. Empty) [] (λ p low. refl) l s.entries s.nodes s.links row (λ p low. blank.places p);
           distinct = record { once = λ key. omega arith };
         })
 

@@ -1,13 +1,11 @@
 -- What a walk keeps and makes: at one position, and at all of them.
-use Rattle.std.proofs.Common.{◌≡◌, ◌≢◌, ℕ, zero, suc, ◌+◌, ◌<◌, ◌≤◌, List, [], ◌∷◌, ◌++◌, map, length, get_or, set, refl, ap, sym, subst, ◌∙◌, arith, Bool, true, false, cond, Option, Some, None, IsSome, inl, inr, ◌⊎◌, length-append, ◌||◌}
+use Rattle.std.proofs.Common.{◌≡◌, ◌≢◌, ℕ, zero, suc, ◌+◌, ◌<◌, ◌≤◌, List, [], ◌∷◌, ◌++◌, map, length, refl, ap, sym, subst, ◌∙◌, arith, Bool, true, false, cond, Option, Some, None, IsSome, inl, inr, ◌⊎◌, length-append, ◌||◌}
 use Rattle.std.specs.Prelude.{nat_eq}
-use Rattle.std.specs.List.{flat_map}
 use Rattle.std.specs.Ordering.{is_eq}
 use Rattle.std.specs.Cmp.{IsTotalOrder, Equal-is}
 use Rattle.std.specs.declared.cmp.Ordering.{Ordering}
 use Rattle.std.specs.declared.cmp.Ordering.TheVariants.{Equal}
 use Rattle.std.proofs.lemmas.Bool.{cases_eq, cases_Bool, eq-eqb, ne_eqb}
-use Rattle.std.proofs.lemmas.List.{get_or-set_same, get_or-set_other, set-get_or}
 use Rattle.elem_core.specs.declared.codes.TheConstants.{LEVELS, DEEPEST}
 use Rattle.node_heap.specs.Links.{count}
 use Rattle.node_heap.specs.Forms.{Forms}
@@ -24,7 +22,7 @@ use Rattle.champ_chain.proofs.SpotLemmas.{first-row}
 use Rattle.elem_core.specs.Codes.{digit_at}
 use Rattle.champ_trie.specs.Bits.{has}
 use Rattle.champ_trie.proofs.PlaceLemmas.{place-empty}
-use Rattle.champ_trie.specs.Trie.{IsTrie, IsPlace, part, links_at_place}
+use Rattle.champ_trie.specs.Trie.{AreSets, IsTrie, IsPlace, part, links_at_place}
 use Rattle.champ_trie.specs.declared.place.Place.{Place}
 use Rattle.champ_trie.specs.declared.place.Place.TheVariants.{Empty, Entry as At, Node}
 use Rattle.champ_trie.proofs.WalkLemmas.{trie-walk, trie-entries}
@@ -39,11 +37,11 @@ use Rattle.set_merge.specs.declared.merged.Merged.TheVariants.{Old, New}
 use Rattle.set_merge.specs.Side.{has_place, place_in, lone_place, place_below, IsKept, HasRow, IsSide, same_key, settled_entries, settled}
 use Rattle.set_merge.specs.Merge.{merged}
 use Rattle.set_merge.specs.Need.{sum_below, need_unless, chains_need, rows_need}
-use Rattle.set_merge.specs.Spread.{place_merged, new_links, old_links, is_new, WantsRow, IsUnchanged, Closed}
+use Rattle.set_merge.specs.Spread.{place_merged, new_links, old_links, is_new, standing, IsBlank, WantsRow, IsUnchanged, Closed}
 use Rattle.set_merge.specs.Walk.{HasBelow, AreSides, ArePlaces, place_need, position_need, IsCome, IsSpread}
 use Rattle.set_merge.proofs.MergeLemmas.{merged-first, merged-second, merged-same, merged-equal, merged-differ, part-merged}
 use Rattle.set_merge.proofs.NeedLemmas.{below-place, place-has}
-use Rattle.set_merge.proofs.SpreadLemmas.{same-stands, none-stands, one-stands, node-two, entries-two, row-stands, lone-some, lone-none, NoneIn, OneIn, NodeIn, TwoIn}
+use Rattle.set_merge.proofs.SpreadLemmas.{link-there, same-stands, node-two, row-stands, lone-stands, lone-two}
 
 pub or-false : (a b : Bool) → (a || b) ≡ false → (a ≡ false) × (b ≡ false)
 or-false true b is = absurd cc
@@ -190,35 +188,6 @@ module _ {K : Type 0} (cmp : K → K → Ordering) (code : K → ℕ) where
               (subst (Stands (cond k.both (Node l) Empty)) (sym (merged-same cmp o k E D (one-set left depth l E D one.1 (subst (λ j. IsTrie cmp code F left depth j D) (sym same) two.1)))) (kept-if k.both (Node l) E one))
           by_case (inr other) = absurd (let bad : None ≡ Some q = sym (ap (λ b. cond b (Some (cond k.both (Node l) Empty)) None) (ne_eqb l m other)) ∙ is in cc)
 
--- what one place puts among the links
-flat-put : (ps : List Place) (n : ℕ) (q : Place) (l : ℕ) → n < length ps → get_or ps n Empty ≡ Empty → count l (flat_map links_at_place (set ps n q)) ≡ count l (flat_map links_at_place ps) + count l (links_at_place q)
-flat-put [] n q l low free = absurd (omega (arith, low))
-flat-put (p ∷ ps) zero q l low free =
-    omega (arith, count-append l (links_at_place q) (flat_map links_at_place ps), count-append l (links_at_place p) (flat_map links_at_place ps), ap (λ r. count l (links_at_place r)) free)
-flat-put (p ∷ ps) (suc n) q l low free =
-    omega (arith, count-append l (links_at_place p) (flat_map links_at_place (set ps n q)), count-append l (links_at_place p) (flat_map links_at_place ps), flat-put ps n q l (omega (arith, low)) free)
-
--- a link among them stands at a place
-flat-counted : (ps : List Place) (l : ℕ) → 0 < count l (flat_map links_at_place ps) → (p : ℕ) × (p < length ps) × (0 < count l (links_at_place (get_or ps p Empty)))
-flat-counted [] l some = absurd (omega (arith, some))
-flat-counted (q ∷ ps) l some = by_count (count l (links_at_place q)) refl (flat-counted ps l)
-  where
-    by_count : (n : ℕ) → count l (links_at_place q) ≡ n → (0 < count l (flat_map links_at_place ps) → (p : ℕ) × (p < length ps) × (0 < count l (links_at_place (get_or ps p Empty))))
-        → (p : ℕ) × (p < suc (length ps)) × (0 < count l (links_at_place (get_or (q ∷ ps) p Empty)))
-    by_count zero is again = (let found = again (omega (arith, some, is, count-append l (links_at_place q) (flat_map links_at_place ps))) in (suc found.0, omega (arith, found.1), found.2))
-    by_count (suc n) is again = (0, omega arith, omega (arith, is))
-
--- what stands somewhere stands among the places
-past : (ps : List Place) (p : ℕ) → length ps ≤ p → get_or ps p Empty ≡ Empty
-past [] p high = refl
-past (q ∷ ps) zero high = absurd (omega (arith, high))
-past (q ∷ ps) (suc p) high = past ps p (omega (arith, high))
-
-within : (ps : List Place) (p : ℕ) (q : Place) → get_or ps p Empty ≡ q → q ≢ Empty → p < length ps
-within [] p q here some = absurd (some (sym here))
-within (r ∷ ps) zero q here some = omega arith
-within (r ∷ ps) (suc p) q here some = omega (arith, within ps p q here some)
-
 -- a sum of fewer numbers, and one more
 pub sum-within : (f : ℕ → ℕ) (m n : ℕ) → m < n → sum_below m f + f m ≤ sum_below n f
 unfolding sum_below
@@ -239,7 +208,10 @@ sum-next f n = refl
 
 -- one position more
 pub record Puts (s t : Spread) (n : ℕ) (x y : Place) (m : Merged) : Type 0 where
-  pub places : t.places ≡ set s.places n (place_merged m)
+  pub sets : AreSets t.entries t.nodes t.links
+  pub here : standing t n ≡ place_merged m
+  pub others : (p : ℕ) → p < 32 → p ≢ n → standing t p ≡ standing s p
+  pub links : (l : ℕ) → count l t.links ≡ count l s.links + count l (links_at_place (place_merged m))
   pub stood : t.stood ≡ s.stood ++ old_links m
   pub made : t.made ≡ (s.made || is_new m)
   pub as_first : t.as_first ≡ true → (s.as_first ≡ true) × (place_merged m ≡ x)
@@ -305,42 +277,34 @@ module _ {T : Type 0} where
     module _ (old now : Heap T) (left depth : ℕ) (a b : Place) (M : List (Entry T)) (s : Spread) (is : IsSpread cmp code most k F old now left depth a b M s 32) where
       pub spread-live : (l : ℕ) → 0 < count l s.stood → IsSome (row_at now l)
       spread-live l some =
-          let found = flat-counted s.places l (omega (arith, some, is.counted l)) in
-          place-live cmp code now left (suc depth) (get_or s.places found.0 Empty) (part cmp code depth found.0 M) (is.places found.0 (omega (arith, found.1, is.number))) l found.2
+          let found = link-there s.entries s.nodes s.links is.sets l (omega (arith, some, is.counted l)) in
+          place-live cmp code now left (suc depth) (standing s found.0) (part cmp code depth found.0 M) (is.places found.0 found.1) l found.2
 
-      pub spread-held : (l : ℕ) → count l (flat_map links_at_place s.places) ≤ holds_at now l + count l s.stood
+      pub spread-held : (l : ℕ) → count l s.links ≤ holds_at now l + count l s.stood
       spread-held l = omega (arith, is.counted l, is.builds.holds l)
 
     -- nothing at any position
-    pub spread-none : (h : Heap T) (left depth : ℕ) (a b : Place) (M : List (Entry T)) (s : Spread) → IsGraph h → ((p : ℕ) → get_or s.places p Empty ≡ Empty) → length s.places ≡ 32 → s.stood ≡ [] → s.made ≡ false
-        → IsSpread cmp code most k F h h left depth a b M s 0
-    spread-none h left depth a b M s graph empty number stood made = record {
-      number = number;
+    pub spread-none : (h : Heap T) (left depth : ℕ) (a b : Place) (M : List (Entry T)) (s : Spread) → IsGraph h → IsBlank s → IsSpread cmp code most k F h h left depth a b M s 0
+    spread-none h left depth a b M s graph blank = record {
+      sets = blank.sets;
       places = λ p low. absurd (omega (arith, low));
-      rest = λ p high. empty p;
+      rest = λ p high small. blank.places p;
       news = [];
       builds = Builds-refl h [] 0 _ graph;
-      counted = λ l. omega (arith, ap (count l) stood, flat-none l s.places empty);
-      few = omega (arith, ap length stood);
+      counted = λ l. omega (arith, ap (count l) blank.stood, ap (count l) blank.links);
+      few = omega (arith, ap length blank.stood);
       unmade = λ un. refl;
-      made = λ is. absurd (let bad : false ≡ true = sym made ∙ is in cc);
+      made = λ is. absurd (let bad : false ≡ true = sym blank.made ∙ is in cc);
       as_first = λ is p low. absurd (omega (arith, low));
       as_second = λ is p low. absurd (omega (arith, low));
     }
-      where
-        flat-none : (l : ℕ) (ps : List Place) → ((p : ℕ) → get_or ps p Empty ≡ Empty) → count l (flat_map links_at_place ps) ≡ 0
-        flat-none l [] none = omega arith
-        flat-none l (p ∷ ps) none = omega (arith, count-append l (links_at_place p) (flat_map links_at_place ps), ap (λ q. count l (links_at_place q)) (none 0), flat-none l ps (λ i. none (suc i)))
 
     module _ (old now new : Heap T) (left depth : ℕ) (a b : Place) (M : List (Entry T)) (s t : Spread) (n : ℕ) (m : Merged) (low : n < 32)
         (is : IsSpread cmp code most k F old now left depth a b M s n) (keeps : KeepsForms (form_at now) (form_at new))
         (come : IsCome cmp code most k F now new left depth (place_below code F depth a n) (place_below code F depth b n) (part cmp code depth n M) m)
         (puts : Puts s t n (place_below code F depth a n) (place_below code F depth b n) m) where
-      here : get_or t.places n Empty ≡ place_merged m
-      here = ap (λ ps. get_or ps n Empty) puts.places ∙ get_or-set_same s.places n (place_merged m) Empty (omega (arith, low, is.number))
-
-      there : (p : ℕ) → p ≢ n → get_or t.places p Empty ≡ get_or s.places p Empty
-      there p other = ap (λ ps. get_or ps p Empty) puts.places ∙ get_or-set_other s.places n p (place_merged m) Empty other
+      there : (p : ℕ) → p < n → standing t p ≡ standing s p
+      there p small = puts.others p (omega (arith, small, low)) (λ same. omega (arith, same, small))
 
       at-all : (P : ℕ → Type 0) → ((p : ℕ) → p < n → P p) → P n → (p : ℕ) → p < suc n → P p
       at-all P before at p small = by_case (cases_eq p n)
@@ -354,12 +318,12 @@ module _ {T : Type 0} where
 
       pub spread-more : IsSpread cmp code most k F old new left depth a b M t (suc n)
       spread-more = record {
-        number = ap length puts.places ∙ length-put s.places n (place_merged m) ∙ is.number;
-        places = at-all (λ p. IsPlace (form_at new) (λ l P. IsTrie cmp code (form_at new) left (suc depth) l P) (get_or t.places p Empty) (part cmp code depth p M))
-            (λ p small. subst (λ q. IsPlace (form_at new) (λ l P. IsTrie cmp code (form_at new) left (suc depth) l P) q (part cmp code depth p M)) (sym (there p (λ same. omega (arith, same, small))))
-            (place-kept cmp code (form_at now) (form_at new) keeps left (suc depth) (get_or s.places p Empty) (part cmp code depth p M) (is.places p small)))
-            (subst (λ q. IsPlace (form_at new) (λ l P. IsTrie cmp code (form_at new) left (suc depth) l P) q (part cmp code depth n M)) (sym here) come.place);
-        rest = λ p high. there p (λ same. omega (arith, same, high)) ∙ is.rest p (omega (arith, high));
+        sets = puts.sets;
+        places = at-all (λ p. IsPlace (form_at new) (λ l P. IsTrie cmp code (form_at new) left (suc depth) l P) (standing t p) (part cmp code depth p M))
+            (λ p small. subst (λ q. IsPlace (form_at new) (λ l P. IsTrie cmp code (form_at new) left (suc depth) l P) q (part cmp code depth p M)) (sym (there p small))
+            (place-kept cmp code (form_at now) (form_at new) keeps left (suc depth) (standing s p) (part cmp code depth p M) (is.places p small)))
+            (subst (λ q. IsPlace (form_at new) (λ l P. IsTrie cmp code (form_at new) left (suc depth) l P) q (part cmp code depth n M)) (sym puts.here) come.place);
+        rest = λ p high small. puts.others p small (λ same. omega (arith, same, high)) ∙ is.rest p (omega (arith, high)) small;
         news = news';
         builds = Builds-more 0 _ (Builds-both [] news' is.builds come.builds (λ l. omega (arith, count-append l is.news (new_links m))) (omega (arith, length-append is.news (new_links m)))) (omega arith) (omega (arith, sum-next (position_need cmp code most F k left depth a b) n));
         counted = λ l. omega (
@@ -369,24 +333,18 @@ module _ {T : Type 0} where
           count-append l s.stood (old_links m),
           count-append l is.news (new_links m),
           merged-links m l,
-          ap (λ ps. count l (flat_map links_at_place ps)) puts.places,
-          flat-put s.places n (place_merged m) l (omega (arith, low, is.number)) (is.rest n (omega arith)),
+          puts.links l,
         );
         few = omega (arith, is.few, merged-few m, ap length puts.stood, length-append s.stood (old_links m), length-append is.news (new_links m));
         unmade = λ un. (let none = or-false s.made (is_new m) (sym puts.made ∙ un) in ap (λ xs. xs ++ new_links m) (is.unmade none.0) ∙ not-new m none.1);
         made = λ some. by_made (or-true s.made (is_new m) (sym puts.made ∙ some));
-        as_first = λ is_so. (let both = puts.as_first is_so in at-all (λ p. get_or t.places p Empty ≡ place_below code F depth a p) (λ p small. there p (λ same. omega (arith, same, small)) ∙ is.as_first both.0 p small) (here ∙ both.1));
-        as_second = λ is_so. (let both = puts.as_second is_so in at-all (λ p. get_or t.places p Empty ≡ place_below code F depth b p) (λ p small. there p (λ same. omega (arith, same, small)) ∙ is.as_second both.0 p small) (here ∙ both.1));
+        as_first = λ is_so. (let both = puts.as_first is_so in at-all (λ p. standing t p ≡ place_below code F depth a p) (λ p small. there p small ∙ is.as_first both.0 p small) (puts.here ∙ both.1));
+        as_second = λ is_so. (let both = puts.as_second is_so in at-all (λ p. standing t p ≡ place_below code F depth b p) (λ p small. there p small ∙ is.as_second both.0 p small) (puts.here ∙ both.1));
       }
         where
-          length-put : (ps : List Place) (i : ℕ) (q : Place) → length (set ps i q) ≡ length ps
-          length-put [] i q = refl
-          length-put (p ∷ ps) zero q = omega arith
-          length-put (p ∷ ps) (suc i) q = omega (arith, length-put ps i q)
-
-          by_made : (s.made ≡ true) ⊎ (is_new m ≡ true) → (p : ℕ) × (l : ℕ) × (p < suc n) × (get_or t.places p Empty ≡ Node l)
-          by_made (inl some) = (let at = is.made some in (at.0, at.1, omega (arith, at.2), there at.0 (λ same. omega (arith, same, at.2)) ∙ at.3))
-          by_made (inr new) = (let at = new-node m new in (n, at.0, omega arith, here ∙ at.1))
+          by_made : (s.made ≡ true) ⊎ (is_new m ≡ true) → (p : ℕ) × (l : ℕ) × (p < suc n) × (standing t p ≡ Node l)
+          by_made (inl some) = (let at = is.made some in (at.0, at.1, omega (arith, at.2), there at.0 at.2 ∙ at.3))
+          by_made (inr new) = (let at = new-node m new in (n, at.0, omega arith, puts.here ∙ at.1))
 
     -- what comes at a position that is settled
     module _ (h : Heap T) (keeps : KeepsForms F (form_at h)) (left depth : ℕ) (x y : Place) (E D : List (Entry T)) (are : ArePlaces cmp code F left depth x y E D) where
@@ -462,7 +420,7 @@ module _ {T : Type 0} where
           StandsIn I r P = IsPlace I (λ l P. IsTrie cmp code I (suc n) (suc depth) l P) r P
 
           abbrev q : ℕ → Place
-          q p = get_or s.places p Empty
+          q p = standing s p
 
           unchanged-as : (a : Place) (P : List (Entry T)) → IsPlace F (λ l P. IsTrie cmp code F left (suc depth) l P) a P → ((p : ℕ) → p < 32 → q p ≡ place_below code F (suc depth) a p) → StandsIn H a M
           unchanged-as a P at same =
@@ -470,27 +428,14 @@ module _ {T : Type 0} where
               same-stands cmp code H n (suc depth) a P M q (place-kept cmp code F H at-mid (suc n) (suc depth) a P here) is.places
               (λ p low. same p low ∙ below-kept cmp code F H at-mid n (suc depth) a P (place-has cmp code F (suc n) (suc depth) a P here) p)
 
-          alone : (place : Place) → ((place ≡ Empty) × NoneIn s.places) ⊎ ((i : ℕ) × (place ≡ At i) × OneIn i s.places) → StandsIn H place M
-          alone place (inl none) = subst (λ r. StandsIn H r M) (sym none.0) (none-stands cmp code H n (suc depth) q M is.places (λ p low. none.1 p))
-          alone place (inr one) =
-              let low = within s.places one.2.at (At one.0) one.2.here (λ same. absurd cc) in
-              subst (λ r. StandsIn H r M) (sym one.1)
-              (one-stands cmp code H n (suc depth) q M is.places (λ l P. IsTrie cmp code H (suc n) (suc depth) l P) one.2.at one.0 (omega (arith, low, is.number)) one.2.here (λ p small other. one.2.others p other))
-
           unchanged : (place : Place) → IsUnchanged s x y place → StandsIn H place M
           unchanged place (inl first) = subst (λ r. StandsIn H r M) (sym first.1) (unchanged-as x E are.first (is.as_first first.0))
           unchanged place (inr (inl second)) = subst (λ r. StandsIn H r M) (sym second.1) (unchanged-as y D are.second (is.as_second second.0))
-          unchanged place (inr (inr only)) = alone place (lone-some s.places place only)
-
-          two-or-node : NodeIn s.places ⊎ TwoIn s.places → 2 ≤ length M
-          two-or-node (inl one) = node-two cmp code H n (suc depth) q M is.places one.at one.node (omega (arith, within s.places one.at (Node one.node) one.here (λ same. absurd cc), is.number)) one.here
-          two-or-node (inr two) =
-              entries-two cmp code H n (suc depth) q M is.places two.at two.next two.entry_at two.entry_next (omega (arith, within s.places two.at (At two.entry_at) two.here (λ same. absurd cc), is.number))
-              (omega (arith, within s.places two.next (At two.entry_next) two.there (λ same. absurd cc), is.number)) two.apart two.here two.there
+          unchanged place (inr (inr only)) = lone-stands cmp code H n (suc depth) s.entries s.nodes s.links M is.sets is.places (λ l P. IsTrie cmp code H (suc n) (suc depth) l P) place only
 
           some-more : WantsRow s → 2 ≤ length M
           some-more (inl some) = (let at = is.made some in node-two cmp code H n (suc depth) q M is.places at.0 at.1 at.2 at.3)
-          some-more (inr none) = two-or-node (lone-none s.places none.2)
+          some-more (inr none) = lone-two cmp code H n (suc depth) s.entries s.nodes s.links M is.sets is.places none.2
 
           pub come-closed : (m : Merged) → settled cmp G k x y ≡ None → Closed mid new s (suc depth) x y m → IsCome cmp code most k F h new left depth x y M m
           come-closed (Old place) look closed = record {
@@ -504,13 +449,13 @@ module _ {T : Type 0} where
               some-more made.more,
               subst (λ i. IsTrie cmp code (form_at new) i (suc depth) l M) (sym more)
                   (row-stands cmp code (form_at new) n (suc depth) q M (λ p low. place-kept cmp code H (form_at new) later n (suc (suc depth)) (q p) (part cmp code (suc depth) p M) (is.places p low))
-                  l made.row.entries made.row.nodes made.row.links made.row.row made.row.at),
+                  l s.entries s.nodes s.links made.row (λ p low. refl)),
             );
           }
 
 -- what a closed spread keeps
 module _ {T : Type 0} where
-  pub closed-kept : (mid new : Heap T) (s : Spread) (d : ℕ) (x y : Place) (m : Merged) (news : List ℕ) → ((l : ℕ) → count l s.stood + count l news ≡ count l (flat_map links_at_place s.places)) → Closed mid new s d x y m → KeepsForms (form_at mid) (form_at new)
+  pub closed-kept : (mid new : Heap T) (s : Spread) (d : ℕ) (x y : Place) (m : Merged) (news : List ℕ) → ((l : ℕ) → count l s.stood + count l news ≡ count l s.links) → Closed mid new s d x y m → KeepsForms (form_at mid) (form_at new)
   closed-kept mid new s d x y (Old place) news counted closed = subst (λ i. KeepsForms (form_at mid) (form_at i)) (sym closed.0) (record { kept = λ l f is. is })
   closed-kept mid new s d x y (New l) news counted made = forms-kept mid new (made.builds news counted).extends
 
@@ -585,7 +530,10 @@ module _ {T : Type 0} (cmp : T → T → Ordering) (o : IsTotalOrder cmp) (code 
       spread-step cmp code most k F old now now left depth a b (merged cmp k E D) (merged cmp k (part cmp code depth n E) (part cmp code depth n D)) s s n (Old Empty) low is Empty Empty (sym first) (sym second) come
       (part-merged cmp code agree k depth n E D)
       (record {
-        places = sym (ap (λ q. set s.places n q) (sym (is.rest n (omega arith))) ∙ set-get_or s.places n Empty);
+        sets = is.sets;
+        here = is.rest n (omega arith) low;
+        others = λ p small other. refl;
+        links = λ l. omega arith;
         stood = sym (append-none s.stood);
         made = or-none s.made;
         as_first = λ so. (so, refl);

@@ -1,10 +1,9 @@
 -- What a merge makes of two places, and of the positions of a row.
-use Rattle.std.specs.Prelude.{◌≡◌, ℕ, ◌+◌, Bool, true, false, List, [], ◌∷◌, length, slice_index_or, Option, Some, None, ◌⊎◌}
-use Rattle.std.specs.List.{flat_map}
+use Rattle.std.specs.Prelude.{◌≡◌, ℕ, zero, suc, ◌+◌, Bool, true, false, List, [], ◌∷◌, Option, Some, None, ◌⊎◌}
 use Rattle.node_heap.specs.Links.{count}
 use Rattle.node_heap.specs.Heap.{Heap, form_at}
 use Rattle.node_heap.specs.Calls.{Builds}
-use Rattle.champ_trie.specs.Trie.{IsRowOfPlaces, links_at_place}
+use Rattle.champ_trie.specs.Trie.{AreSets, IsRow, place_of, links_at_place}
 use Rattle.champ_trie.specs.declared.place.Place.{Place}
 use Rattle.champ_trie.specs.declared.place.Place.TheVariants.{Empty, Entry as At, Node}
 use Rattle.set_merge.specs.declared.merged.Merged.{Merged}
@@ -30,32 +29,29 @@ abbrev pub is_new : Merged → Bool
 is_new (Old place) = false
 is_new (New l) = true
 
--- one place more beside what stands alone so far
-abbrev pub lone_with : Place → Place → Option Place
-lone_with Empty only = Some only
-lone_with (At x) Empty = Some (At x)
-lone_with (At x) (At y) = None
-lone_with (At x) (Node l) = None
-lone_with (Node l) only = None
+-- what stands at a position so far
+abbrev pub standing : Spread → ℕ → Place
+standing s p = place_of s.entries s.nodes s.links p
 
--- the same from some place on
-abbrev pub lone_from : Option Place → List Place → Option Place
-lone_from only [] = only
-lone_from None (place ∷ places) = None
-lone_from (Some only) (place ∷ places) = lone_from (lone_with place only) places
+-- nothing where nothing stands at any position, the entry where it is all that stands there, and else None
+abbrev pub lone_in : List ℕ → ℕ → Option Place
+lone_in [] nodes = Some Empty
+lone_in (x ∷ []) zero = Some (At x)
+lone_in (x ∷ []) (suc nodes) = None
+lone_in (x ∷ y ∷ links) nodes = None
 
--- nothing where nothing stands at the places, the entry where it is all that stands there, and else None
-abbrev pub lone_of : List Place → Option Place
-lone_of places = lone_from (Some Empty) places
+abbrev pub lone_of : Spread → Option Place
+lone_of s = lone_in s.links s.nodes
 
 -- the place is the first or the second one, as all positions are, or what is all that stands there
 abbrev pub IsUnchanged : Spread → Place → Place → Place → Type 0
-IsUnchanged s a b place = ((s.as_first ≡ true) × (place ≡ a)) ⊎ ((s.as_second ≡ true) × (place ≡ b)) ⊎ (lone_of s.places ≡ Some place)
+IsUnchanged s a b place = ((s.as_first ≡ true) × (place ≡ a)) ⊎ ((s.as_second ≡ true) × (place ≡ b)) ⊎ (lone_of s ≡ Some place)
 
 -- nothing was put there yet
 pub record IsBlank (s : Spread) : Type 0 where
-  pub places : (p : ℕ) → slice_index_or s.places p Empty ≡ Empty
-  pub number : length s.places ≡ 32
+  pub sets : AreSets s.entries s.nodes s.links
+  pub places : (p : ℕ) → standing s p ≡ Empty
+  pub links : s.links ≡ []
   pub stood : s.stood ≡ []
   pub made : s.made ≡ false
   pub as_first : s.as_first ≡ true
@@ -64,13 +60,13 @@ pub record IsBlank (s : Spread) : Type 0 where
 -- a row is wanted: some node is new, or the positions are neither those of the first place nor those of the second, and more than one
 -- entry stands there
 abbrev pub WantsRow : Spread → Type 0
-WantsRow s = (s.made ≡ true) ⊎ (s.as_first ≡ false) × (s.as_second ≡ false) × (lone_of s.places ≡ None)
+WantsRow s = (s.made ≡ true) ⊎ (s.as_first ≡ false) × (s.as_second ≡ false) × (lone_of s ≡ None)
 
 module _ {T : Type 0} where
-  -- a row of the positions' places was made, and the holds of those that weren't there before were spent
+  -- a row like this was made, and the holds of the nodes that weren't there before were spent
   pub record IsMade (old new : Heap T) (s : Spread) (depth l : ℕ) : Type 0 where
-    pub row : IsRowOfPlaces (form_at new) l depth s.places
-    pub builds : (news : List ℕ) → ((k : ℕ) → count k s.stood + count k news ≡ count k (flat_map links_at_place s.places)) → Builds old new news (l ∷ []) 0 1
+    pub row : IsRow (form_at new) l depth s.entries s.nodes s.links
+    pub builds : (news : List ℕ) → ((k : ℕ) → count k s.stood + count k news ≡ count k s.links) → Builds old new news (l ∷ []) 0 1
     pub more : WantsRow s
 
   -- what stands for a row of these positions: where none is new, an old place, and else a row that was made

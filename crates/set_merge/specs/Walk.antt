@@ -1,6 +1,5 @@
 -- Inside: the walk of a merge.
-use Rattle.std.specs.Prelude.{◌≡◌, ℕ, suc, ◌+◌, ◌<◌, ◌≤◌, true, false, List, [], ◌∷◌, length, slice_index_or, Some}
-use Rattle.std.specs.List.{flat_map}
+use Rattle.std.specs.Prelude.{◌≡◌, ℕ, suc, ◌+◌, ◌<◌, ◌≤◌, true, false, List, [], ◌∷◌, length, Some}
 use Rattle.std.specs.declared.cmp.Ordering.{Ordering}
 use Rattle.elem_core.specs.declared.codes.TheConstants.{LEVELS}
 use Rattle.node_heap.specs.Links.{count}
@@ -9,13 +8,13 @@ use Rattle.node_heap.specs.Heap.{Heap, form_at}
 use Rattle.node_heap.specs.Calls.{Builds}
 use Rattle.champ_chain.specs.Entry.{Entry, entry, IsEntry, AreDistinct}
 use Rattle.champ_chain.specs.Chain.{AreChainRows, IsRising}
-use Rattle.champ_trie.specs.Trie.{IsTrie, IsPlace, part, links_at_place}
+use Rattle.champ_trie.specs.Trie.{AreSets, IsTrie, IsPlace, part}
 use Rattle.champ_trie.specs.declared.place.Place.{Place}
 use Rattle.champ_trie.specs.declared.place.Place.TheVariants.{Empty, Entry as At, Node}
 use Rattle.set_merge.specs.declared.keeps.Keeps.{Keeps}
 use Rattle.set_merge.specs.declared.merged.Merged.{Merged}
 use Rattle.set_merge.specs.declared.spread.Spread.{Spread}
-use Rattle.set_merge.specs.Spread.{place_merged, new_links}
+use Rattle.set_merge.specs.Spread.{place_merged, new_links, standing}
 use Rattle.set_merge.specs.Side.{place_below, settled}
 use Rattle.set_merge.specs.Need.{sum_below, need_unless, rows_need}
 
@@ -59,8 +58,8 @@ module _ {K : Type 0} (cmp : K → K → Ordering) (code : K → ℕ) (F : Forms
     pub other_distinct : AreDistinct cmp D
 
   -- what stands at each of the first positions stands for the entries with that digit
-  abbrev pub HavePlaces : ℕ → ℕ → ℕ → List Place → List (Entry K) → Type 0
-  HavePlaces left depth n places M = (p : ℕ) → p < n → IsPlace F (λ l P. IsTrie cmp code F left (suc depth) l P) (slice_index_or places p Empty) (part cmp code depth p M)
+  abbrev pub HavePlaces : ℕ → ℕ → ℕ → (ℕ → Place) → List (Entry K) → Type 0
+  HavePlaces left depth n place M = (p : ℕ) → p < n → IsPlace F (λ l P. IsTrie cmp code F left (suc depth) l P) (place p) (part cmp code depth p M)
 
 module _ {K : Type 0} (cmp : K → K → Ordering) (code : K → ℕ) (most : ℕ) (F : Forms K) (k : Keeps) where
   -- what two places at one position of a row of a depth need
@@ -81,14 +80,14 @@ module _ {T : Type 0} (cmp : T → T → Ordering) (code : T → ℕ) (most : �
   -- the first so many positions of the merge of two places, as rows of a depth: they stand for these entries, the nodes that were
   -- made are held, and no more rows came than these positions need
   pub record IsSpread (F : Forms T) (old now : Heap T) (left depth : ℕ) (a b : Place) (M : List (Entry T)) (s : Spread) (n : ℕ) : Type 0 where
-    pub number : length s.places ≡ 32
-    pub places : HavePlaces cmp code (form_at now) left depth n s.places M
-    pub rest : (p : ℕ) → n ≤ p → slice_index_or s.places p Empty ≡ Empty
+    pub sets : AreSets s.entries s.nodes s.links
+    pub places : HavePlaces cmp code (form_at now) left depth n (standing s) M
+    pub rest : (p : ℕ) → n ≤ p → p < 32 → standing s p ≡ Empty
     pub news : List ℕ
     pub builds : Builds old now [] news 0 (sum_below n (position_need cmp code most F k left depth a b))
-    pub counted : (l : ℕ) → count l s.stood + count l news ≡ count l (flat_map links_at_place s.places)
+    pub counted : (l : ℕ) → count l s.stood + count l news ≡ count l s.links
     pub few : length s.stood + length news ≤ n
     pub unmade : s.made ≡ false → news ≡ []
-    pub made : s.made ≡ true → (p : ℕ) × (l : ℕ) × (p < n) × (slice_index_or s.places p Empty ≡ Node l)
-    pub as_first : s.as_first ≡ true → (p : ℕ) → p < n → slice_index_or s.places p Empty ≡ place_below code F depth a p
-    pub as_second : s.as_second ≡ true → (p : ℕ) → p < n → slice_index_or s.places p Empty ≡ place_below code F depth b p
+    pub made : s.made ≡ true → (p : ℕ) × (l : ℕ) × (p < n) × (standing s p ≡ Node l)
+    pub as_first : s.as_first ≡ true → (p : ℕ) → p < n → standing s p ≡ place_below code F depth a p
+    pub as_second : s.as_second ≡ true → (p : ℕ) → p < n → standing s p ≡ place_below code F depth b p

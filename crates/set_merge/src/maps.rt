@@ -18,8 +18,9 @@ use elem_core::{Element, NoMemory};
 use node_heap::Heap;
 
 /// The map of the keys of both maps, by as many bits: where a key is in both it has the first one's entry, a pair of its cell and
-/// its value, and else the second's. What the maps share is shared by the union too, and where both have one root it is that
-/// root. It makes at most `map_union_need` nodes. Err where memory runs out: it leaves the heap as it was.
+/// its value, and else the second's. At most 512 rows come for each row that one of the maps reaches and the other doesn't, and
+/// where both have one root it is that root. It makes at most `map_union_need` nodes. Err where memory runs out: it leaves the
+/// heap as it was.
 pub fn map_union<T: Element>(heap: &mut Heap<T>, a: MapRef, b: MapRef) -> Result<Map, NoMemory>
     requires few { hold_count heap.old < half_holds }
     requires bits { a.bits ≡ b.bits }

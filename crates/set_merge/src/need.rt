@@ -30,7 +30,7 @@ pub(crate) fn rows_needed<T: Element>(
     ensures rows { (left : ℕ) → depth + left ≡ LEVELS → result ≡ rows_need T.cmp (code_by T.code_of bits) row_limit (form_at heap.now) keeps left depth a.now b.now }
     ensures graph { IsGraph heap.now }
 {
-    heap.is_graph();
+    heap.rows_form_a_graph();
     if depth > DEEPEST {
         let parts = meeting_of(heap, a, b);
         return parts.first + parts.second;

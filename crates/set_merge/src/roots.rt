@@ -49,7 +49,7 @@ pub(crate) fn need<T: Element>(heap: &Heap<T>, roots: &Roots, keeps: Keeps) -> u
         result ≤ 13 * (length E + length D) + 1 }
     ensures few { result ≤ 2 ^ 62 }
 {
-    heap.is_graph();
+    heap.rows_form_a_graph();
     if roots.a == roots.b {
         return usize::from(!keeps.both);
     }
@@ -100,7 +100,7 @@ pub(crate) fn merge_there<T: Element>(heap: &mut Heap<T>, roots: &Roots, keeps: 
     ensures made { MakesJust heap.old heap.new }
     ensures spares { KeepsToNeed heap.old heap.new 0 0 }
 {
-    heap.is_graph();
+    heap.rows_form_a_graph();
     merged_root(heap, roots, keeps)
 }
 

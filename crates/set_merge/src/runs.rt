@@ -69,7 +69,7 @@ pub(crate) fn meeting_of<T: Element>(heap: &Heap<T>, a: &Place, b: &Place) -> Me
     ensures few { (result.first < row_limit) × (result.second < row_limit) }
     ensures rows { 0 < result.first + result.second → waiting (Old result.shared) ≡ 0 }
 {
-    heap.is_graph();
+    heap.rows_form_a_graph();
     let mut left = *a;
     let mut right = *b;
     let mut first = 0;

@@ -16,9 +16,9 @@ use champ_kinds::{Set, SetRef};
 use elem_core::{Element, NoMemory};
 use node_heap::Heap;
 
-/// The set of the keys of both sets, by as many bits. A key that is in both has the first one's cell. What the sets share is
-/// shared by the union too, and where both have one root it is that root. It makes at most `set_union_need` nodes. Err where
-/// memory runs out: it leaves the heap as it was.
+/// The set of the keys of both sets, by as many bits. A key that is in both has the first one's cell. At most 512 rows come for
+/// each row that one of the sets reaches and the other doesn't, and where both have one root it is that root. It makes at most
+/// `set_union_need` nodes. Err where memory runs out: it leaves the heap as it was.
 pub fn set_union<T: Element>(heap: &mut Heap<T>, a: SetRef, b: SetRef) -> Result<Set, NoMemory>
     requires few { hold_count heap.old < half_holds }
     requires bits { a.bits ≡ b.bits }
@@ -77,9 +77,9 @@ pub fn set_union_need<T: Element>(heap: &Heap<T>, a: SetRef, b: SetRef) -> usize
     need(heap, &roots, UNION)
 }
 
-/// The set of the keys that are in both sets, by as many bits, each with the first one's cell. What it has in common with one
-/// of the sets is shared, and where both have one root it is that root. It makes at most `set_both_need` nodes. Err where
-/// memory runs out: it leaves the heap as it was.
+/// The set of the keys that are in both sets, by as many bits, each with the first one's cell. At most 512 rows come for each
+/// row that one of the sets reaches and the other doesn't, and where both have one root it is that root. It makes at most
+/// `set_both_need` nodes. Err where memory runs out: it leaves the heap as it was.
 pub fn set_both<T: Element>(heap: &mut Heap<T>, a: SetRef, b: SetRef) -> Result<Set, NoMemory>
     requires few { hold_count heap.old < half_holds }
     requires bits { a.bits ≡ b.bits }

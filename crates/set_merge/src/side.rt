@@ -71,7 +71,7 @@ impl Side {
         ensures place { (code : T → ℕ) (depth : ℕ) (place : Place) → IsSide code (form_at heap.now) depth place self.now →
             result ≡ place_below code (form_at heap.now) depth place position }
     {
-        heap.is_graph();
+        heap.rows_form_a_graph();
         match *self {
             Side::Empty => Place::Empty,
             Side::Lone(entry, at) => {

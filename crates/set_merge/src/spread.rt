@@ -1,20 +1,23 @@
 //! What stands at the positions of a row that is being merged.
-ghost use Rattle.std.specs.Prelude.{◌≡◌, ℕ, ◌+◌, ◌<◌, ◌≤◌, true, false, ◌||◌, ◌⊎◌, List, [], ◌∷◌, ◌++◌, length, slice_set, None, IsSome, IfSome};
-ghost use Rattle.std.specs.List.{flat_map};
+ghost use Rattle.std.specs.Prelude.{◌≡◌, ◌≢◌, ℕ, ◌+◌, ◌<◌, ◌≤◌, true, false, ◌||◌, ◌⊎◌, List, [], ◌∷◌, ◌++◌, length, None, IsSome, IfSome};
 ghost use Rattle.node_heap.specs.Links.{count};
 ghost use Rattle.node_heap.specs.Heap.{form_at, row_at, holds_at, hold_count, IsGraph, half_holds};
 ghost use Rattle.node_heap.specs.Calls.{Builds};
-ghost use Rattle.champ_trie.specs.Trie.{IsRowOfPlaces, links_at_place};
-ghost use Rattle.set_merge.specs.Spread.{place_merged, old_links, is_new, lone_of, lone_with, IsBlank, IsUnchanged, Closed};
+ghost use Rattle.champ_trie.specs.Trie.{AreSets, IsRow, links_at_place};
+ghost use Rattle.champ_trie.specs.declared.place.Place.TheVariants.{Empty};
+ghost use Rattle.set_merge.specs.Spread.{place_merged, old_links, is_new, standing, lone_of, IsBlank, IsUnchanged, Closed};
 
 use crate::merged::{Merged, is_same};
-use champ_trie::{Place, row_of_places};
-use node_heap::{Heap, Link, RowLinks};
+use champ_trie::{Place, node_index, rank_of, with_position};
+use node_heap::{Head, Heap, Link, RowLinks};
 
 // What stands at each position of a row that is being merged.
 #[derive(Drop)]
 pub(crate) struct Spread {
-    places: [Place; 32],
+    // The positions of its entries and those of its nodes, and the links of these in the order of a row.
+    entries: u32,
+    nodes: u32,
+    links: RowLinks,
     // The links of what stood before, of which no hold is taken yet.
     stood: RowLinks,
     // Whether a node was made.
@@ -30,7 +33,9 @@ impl Spread {
         ensures blank { IsBlank result }
     {
         Spread {
-            places: [Place::Empty; 32],
+            entries: 0,
+            nodes: 0,
+            links: RowLinks::new(),
             stood: RowLinks::new(),
             made: false,
             as_first: true,
@@ -38,12 +43,16 @@ impl Spread {
         }
     }
 
-    // Puts what was merged at the position, where the two places have these.
+    // Puts what was merged at the position, where nothing stands and the two places have these.
     pub(crate) fn put(&mut self, position: u32, merged: &Merged, a: &Place, b: &Place)
         requires position { position < 32 }
-        requires number { length self.old.places ≡ 32 }
+        requires sets { AreSets self.old.entries self.old.nodes self.old.links }
+        requires free { standing self.old position ≡ Empty }
         requires room { length self.old.stood < 32 }
-        ensures places { self.new.places ≡ slice_set self.old.places position (place_merged merged.now) }
+        ensures sets { AreSets self.new.entries self.new.nodes self.new.links }
+        ensures here { standing self.new position ≡ place_merged merged.now }
+        ensures others { (p : ℕ) → p < 32 → p ≢ position → standing self.new p ≡ standing self.old p }
+        ensures links { (l : ℕ) → count l self.new.links ≡ count l self.old.links + count l (links_at_place (place_merged merged.now)) }
         ensures stood { self.new.stood ≡ self.old.stood ++ old_links merged.now }
         ensures made { self.new.made ≡ (self.old.made || is_new merged.now) }
         ensures as_first { (self.new.as_first ≡ true) → (self.old.as_first ≡ true) × (place_merged merged.now ≡ a.now) }
@@ -54,37 +63,49 @@ impl Spread {
         let place = merged.place();
         self.as_first = self.as_first && is_same(&place, a);
         self.as_second = self.as_second && is_same(&place, b);
-        self.places[position as usize] = place;
+        self.place(position, place);
         match *merged {
-            Merged::Old(old) => self.keep(old),
+            Merged::Old(old) => keep(&mut self.stood, old),
             Merged::New(_) => self.made = true,
         }
     }
 
-    // Notes the link of what stood before.
-    fn keep(&mut self, place: Place)
-        requires room { length self.old.stood < 32 }
-        ensures stood { self.new.stood ≡ self.old.stood ++ links_at_place place }
-        ensures places { self.new.places ≡ self.old.places }
+    // Puts the place at a position where nothing stands.
+    fn place(&mut self, position: u32, place: Place)
+        requires position { position < 32 }
+        requires sets { AreSets self.old.entries self.old.nodes self.old.links }
+        requires free { standing self.old position ≡ Empty }
+        ensures sets { AreSets self.new.entries self.new.nodes self.new.links }
+        ensures here { standing self.new position ≡ place }
+        ensures others { (p : ℕ) → p < 32 → p ≢ position → standing self.new p ≡ standing self.old p }
+        ensures links { (l : ℕ) → count l self.new.links ≡ count l self.old.links + count l (links_at_place place) }
+        ensures stood { self.new.stood ≡ self.old.stood }
         ensures made { self.new.made ≡ self.old.made }
         ensures as_first { self.new.as_first ≡ self.old.as_first }
         ensures as_second { self.new.as_second ≡ self.old.as_second }
     {
-        let end = self.stood.as_slice().len();
         match place {
             Place::Empty => {}
-            Place::Entry(entry) => self.stood.insert(end, entry),
-            Place::Node(node) => self.stood.insert(end, node),
+            Place::Entry(entry) => {
+                self.links
+                    .insert(rank_of(self.entries, position) as usize, entry);
+                self.entries = with_position(self.entries, position);
+            }
+            Place::Node(node) => {
+                let index = node_index(self.entries, self.nodes, position);
+                self.links.insert(index, node);
+                self.nodes = with_position(self.nodes, position);
+            }
         }
     }
 
     // What stands for the row in the one above: where no node was made, the first place or the second if all is as there, nothing
     // for no entry, and the entry for one; else a new row, which spends the holds of the new nodes.
     pub(crate) fn close<T>(&self, heap: &mut Heap<T>, depth: u8, a: &Place, b: &Place) -> Merged
-        requires number { length self.now.places ≡ 32 }
+        requires sets { AreSets self.now.entries self.now.nodes self.now.links }
         requires graph { IsGraph heap.old }
         requires live { (l : ℕ) → 0 < count l self.now.stood → IsSome (row_at heap.old l) }
-        requires held { (l : ℕ) → count l (flat_map links_at_place self.now.places) ≤ holds_at heap.old l + count l self.now.stood }
+        requires held { (l : ℕ) → count l self.now.links ≤ holds_at heap.old l + count l self.now.stood }
         requires few { hold_count heap.old ≤ half_holds + 512 }
         requires spare { 0 < heap.old.spare_nodes }
         ensures closed { Closed heap.old heap.new self.now depth a.now b.now result }
@@ -100,7 +121,7 @@ impl Spread {
     // What the row is where no node was made, None if a new one.
     fn unchanged(&self, a: &Place, b: &Place) -> Option<Place>
         ensures unchanged { IfSome result (λ place. IsUnchanged self.now a.now b.now place) }
-        ensures none { result ≡ None → (self.now.as_first ≡ false) × (self.now.as_second ≡ false) × (lone_of self.now.places ≡ None) }
+        ensures none { result ≡ None → (self.now.as_first ≡ false) × (self.now.as_second ≡ false) × (lone_of self.now ≡ None) }
     {
         if self.as_first {
             return Some(*a);
@@ -108,7 +129,19 @@ impl Spread {
         if self.as_second {
             return Some(*b);
         }
-        lone(&self.places)
+        self.lone()
+    }
+
+    // Nothing where nothing stands at the positions, the entry where it is all that stands there, and else None.
+    fn lone(&self) -> Option<Place>
+        ensures { result ≡ lone_of self.now }
+    {
+        let links = self.links.as_slice();
+        match links.len() {
+            0 => Some(Place::Empty),
+            1 if self.nodes == 0 => Some(Place::Entry(links[0])),
+            _ => None,
+        }
     }
 
     // The root that has just these positions, None where a new row is wanted.
@@ -128,42 +161,35 @@ impl Spread {
 
     // A new row of the depth. It spends the holds of the new nodes.
     pub(crate) fn make<T>(&self, heap: &mut Heap<T>, depth: u8) -> Link
-        requires number { length self.now.places ≡ 32 }
+        requires sets { AreSets self.now.entries self.now.nodes self.now.links }
         requires graph { IsGraph heap.old }
         requires live { (l : ℕ) → 0 < count l self.now.stood → IsSome (row_at heap.old l) }
-        requires held { (l : ℕ) → count l (flat_map links_at_place self.now.places) ≤ holds_at heap.old l + count l self.now.stood }
+        requires held { (l : ℕ) → count l self.now.links ≤ holds_at heap.old l + count l self.now.stood }
         requires few { hold_count heap.old ≤ half_holds + 512 }
         requires spare { 0 < heap.old.spare_nodes }
-        ensures row { IsRowOfPlaces (form_at heap.new) result depth self.now.places }
-        ensures builds { (news : List ℕ) → ((l : ℕ) → count l self.now.stood + count l news ≡ count l (flat_map links_at_place self.now.places)) →
+        ensures row { IsRow (form_at heap.new) result depth self.now.entries self.now.nodes self.now.links }
+        ensures builds { (news : List ℕ) → ((l : ℕ) → count l self.now.stood + count l news ≡ count l self.now.links) →
             Builds heap.old heap.new news (result ∷ []) 0 1 }
     {
         heap.hold_all(self.stood.as_slice());
-        row_of_places(heap, depth, &self.places)
+        let head = Head::Trie {
+            depth,
+            entries: self.entries,
+            nodes: self.nodes,
+        };
+        heap.node(head, self.links.as_slice())
     }
 }
 
-// Nothing where nothing stands at the positions, the entry where it is all that stands there, and else None.
-fn lone(places: &[Place]) -> Option<Place>
-    ensures { result ≡ lone_of places.now }
+// Notes the link of what stood before.
+fn keep(stood: &mut RowLinks, place: Place)
+    requires room { length stood.old < 32 }
+    ensures { stood.new ≡ stood.old ++ links_at_place place }
 {
-    let mut only = Place::Empty;
-    for place in places {
-        only = lone_beside(*place, only)?;
-    }
-    Some(only)
-}
-
-// One place more beside what stood alone so far.
-fn lone_beside(place: Place, only: Place) -> Option<Place>
-    ensures { result ≡ lone_with place only }
-{
+    let end = stood.as_slice().len();
     match place {
-        Place::Empty => Some(only),
-        Place::Entry(entry) => match only {
-            Place::Empty => Some(Place::Entry(entry)),
-            _ => None,
-        },
-        Place::Node(_) => None,
+        Place::Empty => {}
+        Place::Entry(entry) => stood.insert(end, entry),
+        Place::Node(node) => stood.insert(end, node),
     }
 }

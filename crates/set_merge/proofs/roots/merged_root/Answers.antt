@@ -14,7 +14,7 @@ use Rattle.set_merge.specs.Merge.{merged}
 use Rattle.set_merge.specs.Need.{sum_below}
 use Rattle.set_merge.specs.Walk.{position_need}
 use Rattle.set_merge.proofs.WalkLemmas.{need-more, spread-live, spread-held}
-use Rattle.set_merge.proofs.RootLemmas.{flat-empty, need-one, need-two, root-sides, root-alive, root-stood, root-made, root-empty, root-same}
+use Rattle.set_merge.proofs.RootLemmas.{need-one, need-two, root-sides, root-alive, root-stood, root-made, root-empty, root-same}
 use Rattle.set_merge.proofs.roots.merged_root.Goals as goal
 
 pub hold-requires-clause-live : goal.hold-requires-clause-live
@@ -30,7 +30,7 @@ returns-then-keeps-clause-entries g c = λ E D first second.
     (KeepsTries-same c.args.heap.now c.hold.new.self c.hold.ensures.rows cmp code a E first)
 
 pub make-requires-clause-held : goal.make-requires-clause-held
-make-requires-clause-held g c = λ l. omega (arith, flat-empty l c.empty.result.places c.empty.ensures.blank.places)
+make-requires-clause-held g c = λ l. omega (arith, ap (count l) c.empty.ensures.blank.links)
 
 pub make-requires-clause-live : goal.make-requires-clause-live
 make-requires-clause-live g c = λ l some. absurd (omega (arith, some, ap (count l) c.empty.ensures.blank.stood))
@@ -49,14 +49,14 @@ returns-then-eq-clause-builds g c =
     let b = c.args.roots.now.b in
     let pick : Bool → ℕ = λ t. cond t 0 1 in
     let one = ap pick c.if-keeps.false in
-    Builds-more 0 _ (c.make.ensures.builds [] (λ l. omega (arith, flat-empty l c.empty.result.places c.empty.ensures.blank.places, ap (count l) c.empty.ensures.blank.stood))) (omega arith)
+    Builds-more 0 _ (c.make.ensures.builds [] (λ l. omega (arith, ap (count l) c.empty.ensures.blank.links, ap (count l) c.empty.ensures.blank.stood))) (omega arith)
     (omega (arith, need-one g.T.Ord.cmp g.T.Element.code_of c.args.keeps c.args.heap.now c.args.roots.now.bits a b (eqb-true a b (sym c.if-eq.ensures)), one))
 
 pub returns-then-eq-clause-entries : goal.returns-then-eq-clause-entries
 returns-then-eq-clause-entries g c = λ E D first second.
     let a = c.args.roots.now.a in
     let b = c.args.roots.now.b in
-    root-empty g.T.Ord.cmp (code_by g.T.Element.code_of c.args.roots.now.bits) g.met.T.Ord.total c.args.keeps c.args.heap.now a b E D first second c.make.new.heap c.make.result c.empty.result.places c.empty.ensures.blank.places
+    root-empty g.T.Ord.cmp (code_by g.T.Element.code_of c.args.roots.now.bits) g.met.T.Ord.total c.args.keeps c.args.heap.now a b E D first second c.make.new.heap c.make.result c.empty.result c.empty.ensures.blank
     (eqb-true a b (sym c.if-eq.ensures)) c.if-keeps.false c.make.ensures.row
 
 pub rows_merged-requires-clause-sides : goal.rows_merged-requires-clause-sides
@@ -107,14 +107,14 @@ make-requires-in-None-clause-graph g c =
     (root-sides g.T.Ord.cmp (code_by g.T.Element.code_of c.args.roots.now.bits) g.met.T.Ord.total c.args.keeps h c.args.roots.now.a c.args.roots.now.b one.0 two.0 one.1 two.1) in
     did.builds.graph
 
-pub make-requires-in-None-clause-number : goal.make-requires-in-None-clause-number
-make-requires-in-None-clause-number g c =
+pub make-requires-in-None-clause-sets : goal.make-requires-in-None-clause-sets
+make-requires-in-None-clause-sets g c =
     let one = c.requires.first in
     let two = c.requires.second in
     let h = c.args.heap.now in
     let did = c.rows_merged.ensures.spread (form_at h) DEEPEST one.0 two.0 (λ l f is. is)
     (root-sides g.T.Ord.cmp (code_by g.T.Element.code_of c.args.roots.now.bits) g.met.T.Ord.total c.args.keeps h c.args.roots.now.a c.args.roots.now.b one.0 two.0 one.1 two.1) in
-    did.number
+    did.sets
 
 pub make-requires-in-None-clause-live : goal.make-requires-in-None-clause-live
 make-requires-in-None-clause-live g c =

@@ -18,8 +18,8 @@ rows_needed-requires-clause-sides g c =
       one.0,
       two.0,
       root-sides cmp code g.met.T.Ord.total c.args.keeps h a b one.0 two.0 one.1 two.1,
-      first-fits cmp code g.met.T.Ord.total c.args.keeps h a b one.0 two.0 one.1 two.1 c.is_graph.ensures,
-      second-fits cmp code g.met.T.Ord.total c.args.keeps h a b one.0 two.0 one.1 two.1 c.is_graph.ensures,
+      first-fits cmp code g.met.T.Ord.total c.args.keeps h a b one.0 two.0 one.1 two.1 c.rows_form_a_graph.ensures,
+      second-fits cmp code g.met.T.Ord.total c.args.keeps h a b one.0 two.0 one.1 two.1 c.rows_form_a_graph.ensures,
     )
 
 pub returns-clause-apart : goal.returns-clause-apart
@@ -33,7 +33,7 @@ returns-clause-apart g c = λ rows others has back.
     omega (
       arith,
       c.rows_needed.ensures.rows LEVELS (omega arith),
-      need-apart cmp code g.met.T.Ord.total c.args.keeps c.args.heap.now a b one.0 two.0 one.1 two.1 c.is_graph.ensures (eqb-false a b (sym c.if-eq.ensures)) rows others has back,
+      need-apart cmp code g.met.T.Ord.total c.args.keeps c.args.heap.now a b one.0 two.0 one.1 two.1 c.rows_form_a_graph.ensures (eqb-false a b (sym c.if-eq.ensures)) rows others has back,
     )
 
 pub returns-clause-entries : goal.returns-clause-entries
@@ -57,6 +57,6 @@ returns-clause-few g c =
       arith,
       c.rows_needed.ensures.rows LEVELS (omega arith),
       need-entries cmp code g.met.T.Ord.total c.args.keeps h a b one.0 two.0 one.1 two.1,
-      first-fits cmp code g.met.T.Ord.total c.args.keeps h a b one.0 two.0 one.1 two.1 c.is_graph.ensures,
-      second-fits cmp code g.met.T.Ord.total c.args.keeps h a b one.0 two.0 one.1 two.1 c.is_graph.ensures,
+      first-fits cmp code g.met.T.Ord.total c.args.keeps h a b one.0 two.0 one.1 two.1 c.rows_form_a_graph.ensures,
+      second-fits cmp code g.met.T.Ord.total c.args.keeps h a b one.0 two.0 one.1 two.1 c.rows_form_a_graph.ensures,
     )

@@ -98,12 +98,12 @@ merged_below-close-requires-clause-held g t c =
     spread-held g.T.Ord.cmp code row_limit c.args.keeps r.0 c.args.heap.now c.rows_merged.new.heap (r.1 - 1) (c.args.depth + 1) c.args.x.now c.args.y.now (merged g.T.Ord.cmp c.args.keeps r.2 r.3) c.rows_merged.new.spread
     (c.rows_merged.ensures.spread r.0 (r.1 - 1) r.2 r.3 r.4 sides)
 
-pub merged_below-close-requires-clause-number : goal.merged_below-close-requires-clause-number
-merged_below-close-requires-clause-number g t c =
+pub merged_below-close-requires-clause-sets : goal.merged_below-close-requires-clause-sets
+merged_below-close-requires-clause-sets g t c =
     let r = c.requires.places in
     let more : r.1 ≡ suc (r.1 - 1) = omega (arith, r.5.levels, c.requires.deep) in
     let sides = below-sides g.T.Ord.cmp (code_by g.T.Element.code_of c.args.bits) row_limit c.args.keeps r.0 c.args.heap.now (record { kept = r.4 }) r.1 c.args.depth c.args.x.now c.args.y.now r.2 r.3 r.5 (r.1 - 1) more (c.args.depth + 1) (omega arith) in
-    (c.rows_merged.ensures.spread r.0 (r.1 - 1) r.2 r.3 r.4 sides).number
+    (c.rows_merged.ensures.spread r.0 (r.1 - 1) r.2 r.3 r.4 sides).sets
 
 pub merged_below-close-requires-clause-few : goal.merged_below-close-requires-clause-few
 merged_below-close-requires-clause-few g t c =
@@ -176,7 +176,7 @@ rows_merged-loop-position-init g t c = (
       let code = code_by g.T.Element.code_of c.args.bits in
       let h = c.args.heap.now in
       let none = spread-none cmp code row_limit c.args.keeps F h left c.args.depth c.args.a.now c.args.b.now (merged cmp c.args.keeps E D) c.args.spread.now
-      c.requires.graph c.requires.blank.places c.requires.blank.number c.requires.blank.stood c.requires.blank.made in
+      c.requires.graph c.requires.blank in
       spread-on cmp g.met.T.Ord.total code (λ j k e. ap (λ n. masked_code n c.args.bits) (g.met.T.Element.equal_codes j k e)) row_limit c.args.keeps F h h left c.args.depth c.args.a.now c.args.b.now E D are c.args.spread.now
       (record { kept = kept }) (forms-kept h h none.builds.extends) c.of-first.result c.of-second.result c.positions.result c.positions-2.result c.of-first.ensures c.of-second.ensures c.positions.ensures c.positions-2.ensures
       0 c.first_from-position.result c.first_from-position.ensures.from.0 c.first_from-position.ensures.from.1 c.first_from-position.ensures.none none,
@@ -236,10 +236,15 @@ rows_merged-merged_at-merged-requires g t c = λ κs sub.
       ),
     )
 
-pub rows_merged-put-requires-clause-number : goal.rows_merged-put-requires-clause-number
-rows_merged-put-requires-clause-number g t c =
+pub rows_merged-put-requires-clause-sets : goal.rows_merged-put-requires-clause-sets
+rows_merged-put-requires-clause-sets g t c =
     let r = c.requires.sides in
-    (c.loop-position.invariant.1 r.0 r.1 r.2 r.3 r.4 r.5).number
+    (c.loop-position.invariant.1 r.0 r.1 r.2 r.3 r.4 r.5).sets
+
+pub rows_merged-put-requires-clause-free : goal.rows_merged-put-requires-clause-free
+rows_merged-put-requires-clause-free g t c =
+    let r = c.requires.sides in
+    (c.loop-position.invariant.1 r.0 r.1 r.2 r.3 r.4 r.5).rest c.loop-position.position (omega arith) c.loop-position-test.true
 
 pub rows_merged-put-requires-clause-room : goal.rows_merged-put-requires-clause-room
 rows_merged-put-requires-clause-room g t c =
@@ -274,7 +279,7 @@ rows_merged-loop-position-preserved g t c = (
       let more = spread-step cmp code row_limit c.args.keeps F old now new left d a b (merged cmp c.args.keeps E D) (merged cmp c.args.keeps (part cmp code d p E) (part cmp code d p D))
       c.loop-position.spread c.put.new.self p c.merged_at-merged.result low did c.at-x.result c.at-y.result first second come
       (part-merged cmp code (λ j k e. ap (λ n. masked_code n c.args.bits) (g.met.T.Element.equal_codes j k e)) c.args.keeps d p E D)
-      (record { places = c.put.ensures.places; stood = c.put.ensures.stood; made = c.put.ensures.made; as_first = c.put.ensures.as_first; as_second = c.put.ensures.as_second }) in
+      (record { sets = c.put.ensures.sets; here = c.put.ensures.here; others = c.put.ensures.others; links = c.put.ensures.links; stood = c.put.ensures.stood; made = c.put.ensures.made; as_first = c.put.ensures.as_first; as_second = c.put.ensures.as_second }) in
       let later = forms-kept old new more.builds.extends in
       let side' = side-first cmp code F left d a b E D are (form_at old) (form_at new) (record { kept = kept }) later c.of-first.result c.of-first.ensures in
       let other' = side-second cmp code F left d a b E D are (form_at old) (form_at new) (record { kept = kept }) later c.of-second.result c.of-second.ensures in
