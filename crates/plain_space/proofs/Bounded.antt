@@ -2,6 +2,7 @@
 use Rattle.std.proofs.Common.{◌≡◌, ℕ, ◌+◌, ◌-◌, ◌≤◌, Bool, true, false, ◌&&◌, List, [], ◌∷◌, ◌++◌, Option, None, Some, Result, Ok, Err, is_some, length, take, slice_get, refl, arith, subst}
 use Rattle.std.specs.Prelude.{nat_le}
 use Rattle.std.proofs.lemmas.List.{length-take}
+use Rattle.plain_space.specs.declared.TheConstants.{MOST_PARTS, MOST_SPACES}
 use Rattle.plain_space.specs.declared.refusal.Refusal.{Refusal}
 use Rattle.plain_space.specs.declared.refusal.Refusal.TheVariants.{Absent, Exists, Range, Limit, Batch, Empty}
 use Rattle.shell_terms.specs.Edit.{Bytes}
@@ -99,10 +100,10 @@ of_answer work (read name file) = tt
 of_answer work (write name file) = of_given work.history work (lines_of work.current name) Absent _ (λ lines. tt)
 of_answer work (save file) = of_outside work.history work _ tt
 of_answer work (load file) = of_outside work.history work _ tt
-of_answer work (part file number) = of_outside work.history work _ (of_needs work.history work (nat_le 1 number && nat_le number 64) Range (Ok elsewhere) tt)
-of_answer work (chain file number) = of_outside work.history work _ (of_needs work.history work (nat_le 1 number && nat_le number 64) Range (Ok elsewhere) tt)
-of_answer work (indent count file) = of_outside work.history work _ (of_needs work.history work (nat_le count 80) Range _ (of_needs work.history work (all_lines_pass (has_room_for count) work) Limit (Ok elsewhere) tt))
-of_answer work (dedent count file) = of_outside work.history work _ (of_needs work.history work (nat_le count 80) Range (Ok elsewhere) tt)
+of_answer work (part file number) = of_outside work.history work _ (of_needs work.history work (nat_le 1 number && nat_le number MOST_PARTS) Range (Ok elsewhere) tt)
+of_answer work (chain file number) = of_outside work.history work _ (of_needs work.history work (nat_le 1 number && nat_le number MOST_PARTS) Range (Ok elsewhere) tt)
+of_answer work (indent count file) = of_outside work.history work _ (of_needs work.history work (nat_le count MOST_SPACES) Range _ (of_needs work.history work (all_lines_pass (has_room_for count) work) Limit (Ok elsewhere) tt))
+of_answer work (dedent count file) = of_outside work.history work _ (of_needs work.history work (nat_le count MOST_SPACES) Range (Ok elsewhere) tt)
 of_answer work quit = stays work
 
 module _ (work after : Workspace) (command : PlainCommand) (reply : List Bytes) where

@@ -1,9 +1,9 @@
 -- What a merge has at each name.
-use Rattle.std.proofs.Common.{◌≡◌, Bool, true, false, cond, not, is_some, List, [], ◌∷◌, ◌++◌, Option, None, Some, refl, sym, ap, ◌∙◌}
+use Rattle.std.proofs.Common.{◌≡◌, Bool, true, false, cond, not, ◌&&◌, ◌||◌, is_some, List, [], ◌∷◌, ◌++◌, Option, None, Some, refl, sym, ap, ◌∙◌}
 use Rattle.std.specs.Option.{option_or}
 use Rattle.std.specs.Ordering.{nat_cmp, eq_by_cmp}
 use Rattle.std.specs.Cmp.Lexicographic.{slice_cmp, nat_list_cmp_total}
-use Rattle.std.specs.FinMap.{get, empty, entries, find, nat_cmp-IsAntisymmetric, slice_cmp-IsAntisymmetric, get-empty, get-entries, get-from_entries, same_map}
+use Rattle.std.specs.FinMap.{get, contains_key, empty, entries, find, nat_cmp-IsAntisymmetric, slice_cmp-IsAntisymmetric, get-empty, get-entries, get-from_entries, same_map}
 use Rattle.shell_terms.specs.Edit.{Bytes}
 use Rattle.plain_space.specs.Workspace.{Named, joined, in_common, apart_from}
 use Rattle.plain_space.proofs.Computing.{get-kept}
@@ -11,6 +11,16 @@ use Rattle.plain_space.proofs.Computing.{get-kept}
 or-itself : {X : Type 0} (o : Option X) → option_or o o ≡ o
 or-itself None = refl
 or-itself (Some x) = refl
+
+some-or : {X : Type 0} (one other : Option X) → is_some (option_or one other) ≡ (is_some one || is_some other)
+some-or None other = refl
+some-or (Some x) other = refl
+
+some-where : {X : Type 0} (b : Bool) (o : Option X) → is_some (cond b o None) ≡ (is_some o && b)
+some-where true None = refl
+some-where true (Some x) = refl
+some-where false None = refl
+some-where false (Some x) = refl
 
 or-first : {X : Type 0} (b : Bool) (x : X) (one other : Option X) → option_or (cond b (Some x) one) other ≡ cond b (Some x) (option_or one other)
 or-first true x one other = refl
@@ -37,6 +47,15 @@ module _ {X : Type 0} where
       ∙ find-joined q (entries one) (entries other)
       ∙ ap (λ o. option_or o (find (slice_cmp nat_cmp) q (entries other))) (sym (get-entries one q))
       ∙ ap (option_or (get one q)) (sym (get-entries other q))
+
+  pub has-joined : (one other : Named X) (q : Bytes) → contains_key (joined one other) q ≡ (contains_key one q || contains_key other q)
+  has-joined one other q = ap is_some (get-joined one other q) ∙ some-or (get one q) (get other q)
+
+  pub has-common : {Y : Type 0} (one : Named X) (other : Named Y) (q : Bytes) → contains_key (in_common one other) q ≡ (contains_key one q && contains_key other q)
+  has-common one other q = ap is_some (get-kept one _ q) ∙ some-where (contains_key other q) (get one q)
+
+  pub has-apart : {Y : Type 0} (one : Named X) (other : Named Y) (q : Bytes) → contains_key (apart_from one other) q ≡ (contains_key one q && not (contains_key other q))
+  has-apart one other q = ap is_some (get-kept one _ q) ∙ some-where (not (contains_key other q)) (get one q)
 
   -- maps are equal that have the same at each name
   pub same-named : (m n : Named X) → ((q : Bytes) → get m q ≡ get n q) → m ≡ n

@@ -1,12 +1,14 @@
 -- Laws of the plain answer.
-use Rattle.std.specs.Prelude.{◌≡◌, ℕ, ◌+◌, ◌-◌, ◌<◌, ◌≤◌, Bool, List, [], ◌∷◌, None, Some, length, Ok, Err, IsTrue}
+use Rattle.std.specs.Prelude.{◌≡◌, ℕ, ◌+◌, ◌-◌, ◌<◌, ◌≤◌, Bool, not, ◌&&◌, ◌||◌, List, [], ◌∷◌, None, Some, length, Ok, Err, IsTrue}
 use Rattle.std.specs.Bool.{Decides}
+use Rattle.std.specs.Option.{option_or}
 use Rattle.std.specs.FinMap as map
 use Rattle.elem_core.specs.declared.TheConstants.{MAX_LINE}
+use Rattle.plain_space.specs.declared.TheConstants.{MOST_SPACES}
 use Rattle.plain_space.specs.declared.refusal.Refusal.TheVariants.{Range, Limit}
 use Rattle.shell_terms.specs.Edit.{Bytes, PlainEdit, add, put}
 use Rattle.shell_terms.specs.Command.{Merging, join_stars, common_stars, other_stars, join_buffers, PlainCommand, edit, merge, undo, history, indent}
-use Rattle.plain_space.specs.Workspace.{State, Workspace, most, lines_of, same_texts, same_state, in_batch, version_of, merged_with, all_lines_pass, last_of, HasBoundedUndo, with_current}
+use Rattle.plain_space.specs.Workspace.{State, Workspace, most, lines_of, is_starred, same_texts, same_state, in_batch, version_of, merged_with, all_lines_pass, last_of, HasBoundedUndo, with_current}
 use Rattle.plain_space.specs.Lines.{IsLineIn}
 use Rattle.plain_space.specs.Edited.{edited}
 use Rattle.plain_space.specs.Answer.{tells, elsewhere, answer, done}
@@ -60,6 +62,19 @@ pub record EditsInBatch : Type 0 where
       (work : Workspace) (kind : Merging) (version : Bytes) (state : State) → IsTrue (in_batch work) → version_of work version ≡ Some state
       → answer work (merge kind version) ≡ done (record work { current = merged_with kind work.current state })
 
+-- What has each name after a merge: what was joined has the state's own where both have the name, and what isn't merged stays.
+pub record MergesByName : Type 0 where
+  pub lines_stay :
+      (now version : State) (name : Bytes)
+      → (lines_of (merged_with join_stars now version) name ≡ lines_of now name)
+      × (lines_of (merged_with common_stars now version) name ≡ lines_of now name)
+      × (lines_of (merged_with other_stars now version) name ≡ lines_of now name)
+  pub stars_stay : (now version : State) (name : Bytes) → is_starred (merged_with join_buffers now version) name ≡ is_starred now name
+  pub stars_joined : (now version : State) (name : Bytes) → is_starred (merged_with join_stars now version) name ≡ (is_starred now name || is_starred version name)
+  pub stars_common : (now version : State) (name : Bytes) → is_starred (merged_with common_stars now version) name ≡ (is_starred now name && is_starred version name)
+  pub other_stars : (now version : State) (name : Bytes) → is_starred (merged_with other_stars now version) name ≡ (is_starred now name && not (is_starred version name))
+  pub buffers_joined : (now version : State) (name : Bytes) → lines_of (merged_with join_buffers now version) name ≡ option_or (lines_of now name) (lines_of version name)
+
 -- A merge with a state's equal changes nothing, but that no star is left of those which the other hasn't.
 pub record MergesWithEqual : Type 0 where
   pub stars_joined : (now : State) → merged_with join_stars now now ≡ now
@@ -76,10 +91,10 @@ AllLinesPass =
 -- Lines aren't moved by so many spaces where one of them, in whatever state, hasn't room for these. Else the store has the say.
 pub record IndentNeedsRoom : Type 0 where
   pub too_long :
-      (work : Workspace) (count : ℕ) (file text : Bytes) → work.base ≡ None → count ≤ 80 → IsLineIn work text → MAX_LINE < length text + count
+      (work : Workspace) (count : ℕ) (file text : Bytes) → work.base ≡ None → count ≤ MOST_SPACES → IsLineIn work text → MAX_LINE < length text + count
       → answer work (indent count file) ≡ Err Limit
   pub room :
-      (work : Workspace) (count : ℕ) (file : Bytes) → work.base ≡ None → count ≤ 80
+      (work : Workspace) (count : ℕ) (file : Bytes) → work.base ≡ None → count ≤ MOST_SPACES
       → ((text : Bytes) → IsLineIn work text → length text + count ≤ MAX_LINE)
       → answer work (indent count file) ≡ Ok elsewhere
 

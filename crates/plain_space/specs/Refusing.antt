@@ -1,6 +1,7 @@
 -- Refusals, one after another: each word goes on to the next test, or refuses.
 use Rattle.std.specs.Prelude.{ℕ, ◌+◌, ◌-◌, Bool, true, false, ◌&&◌, nat_le, List, Option, None, Some, length, take, slice_get, Result, Err}
 use Rattle.elem_core.specs.declared.TheConstants.{MAX_LINE}
+use Rattle.plain_space.specs.declared.TheConstants.{MOST_PARTS, MOST_SPACES}
 use Rattle.plain_space.specs.declared.refusal.Refusal.{Refusal}
 use Rattle.plain_space.specs.declared.refusal.Refusal.TheVariants.{Absent, Range, Limit, Batch, Empty}
 use Rattle.shell_terms.specs.Edit.{Bytes}
@@ -29,13 +30,13 @@ on_lines state name next = given (lines_of state name) Absent next
 abbrev pub on_range : {X : Type 0} → ℕ → ℕ → List Bytes → Result X Refusal → Result X Refusal
 on_range from to lines next = needs (nat_le from to && nat_le to (length lines)) Range next
 
--- Goes on where a partial document may have this number in its chain: 1 to 64; else Range.
+-- Goes on where a partial document may have this number in its chain: 1 to the most; else Range.
 abbrev pub on_number : {X : Type 0} → ℕ → Result X Refusal → Result X Refusal
-on_number number next = needs (nat_le 1 number && nat_le number 64) Range next
+on_number number next = needs (nat_le 1 number && nat_le number MOST_PARTS) Range next
 
--- Goes on where lines may be moved by so many spaces: at most 80; else Range.
+-- Goes on where lines may be moved by so many spaces; else Range.
 abbrev pub on_count : {X : Type 0} → ℕ → Result X Refusal → Result X Refusal
-on_count count next = needs (nat_le count 80) Range next
+on_count count next = needs (nat_le count MOST_SPACES) Range next
 
 -- Whether a line is a line with so many bytes more.
 abbrev pub has_room_for : ℕ → Bytes → Bool

@@ -1,5 +1,5 @@
 //! Laws of the plain answer: each function does nothing, and its contract is the law.
-ghost use Rattle.plain_space.specs.Laws.{UndoTakesBack, UndoStaysBounded, HistoryAloneSetsBound, FullLines, FullRedo, EditsInBatch, MergesWithEqual, AllLinesPass, IndentNeedsRoom, SameIsEqual};
+ghost use Rattle.plain_space.specs.Laws.{UndoTakesBack, UndoStaysBounded, HistoryAloneSetsBound, FullLines, FullRedo, EditsInBatch, MergesByName, MergesWithEqual, AllLinesPass, IndentNeedsRoom, SameIsEqual};
 
 /// Outside a batch, an undo takes an edit back.
 pub fn undo_takes_back()
@@ -30,6 +30,11 @@ pub fn full_redo()
 /// In a batch an edit changes the current state alone, and so does a merge.
 pub fn edits_in_batch()
     ensures { EditsInBatch }
+{}
+
+/// What has each name after a merge: the state's own lines where the version has a buffer of that name too, and what isn't merged.
+pub fn merges_by_name()
+    ensures { MergesByName }
 {}
 
 /// A merge with a state's equal changes nothing, or takes all stars away.

@@ -9,3 +9,9 @@ pub mod worked;
 
 pub use edit::Edit;
 pub use refusal::Refusal;
+
+/// The most partial documents in a chain.
+pub const MOST_PARTS: u32 = 64;
+
+/// The most spaces by which lines are moved.
+pub const MOST_SPACES: u32 = 80;

@@ -19,10 +19,11 @@ use Rattle.pool_text.proofs.Ordered.{map-flat}
 use Rattle.pool_check.specs.Tries.{entries_below}
 use Rattle.pool_check.specs.Kinds.{both_pass, is_vector_root, is_trie_root, is_pair_of, is_state_of, is_cell_of, elements_pass, is_vector_of, is_trie_of, is_name_cell, is_lines_vector, is_buffer_map, is_stars_set, is_state, is_versions_map, is_history, are_roots}
 use Rattle.pool_check.specs.Readings.{moved}
+use Rattle.pool_check.proofs.RootLemmas.{root_by_root, roots-passed}
 use Rattle.pool_check.proofs.TestLemmas.{and-first, and-second, not-both, all-counted}
 use Rattle.pool_check.proofs.VectorReadings.{all-at}
 use Rattle.pool_carry.specs.Carried.{is_of_trie}
-use Rattle.pool_carry.specs.Named.{Origin, current, version, undo, redo, Spot, state_row, buffer_cell, star_cell, vector_row, version_cell, undo_row, redo_row, first_link, second_link, children, entry_of, key_cell_of, value_of_key, down, state_at, buffers_at, stars_at, found}
+use Rattle.pool_carry.specs.Named.{Origin, current, version, undo, redo, NamedSpot, state_row, buffer_cell, star_cell, vector_row, version_cell, undo_row, redo_row, first_link, second_link, children, entry_of, key_cell_of, value_of_key, down, state_at, buffers_at, stars_at, found}
 use Rattle.pool_carry.proofs.OwnVectors.{is_of_vector, vector-own}
 use Rattle.pool_carry.proofs.Goes.{Goes, goes-by, goes-at, goes-weaker, goes-then, goes-turned}
 
@@ -373,16 +374,18 @@ module _ (n m : ℕ) (F H : Forms Bytes) (f g : ℕ → ℕ) (Seen : ℕ → Typ
         top_redo = ((seen r (count-got roots 3 r refl), and-second svu (is_history n F r) h), refl);
       }
 
-  pub tops-are : (roots : List ℕ) → are_roots n F roots ≡ true → ((k : ℕ) → 0 < count k roots → Seen k) → AreTops roots
-  unfolding are_roots
-  tops-are [] h seen = absurd (not-both h)
-  tops-are (c ∷ []) h seen = absurd (not-both h)
-  tops-are (c ∷ v ∷ []) h seen = absurd (not-both h)
-  tops-are (c ∷ v ∷ u ∷ []) h seen = absurd (not-both h)
-  tops-are (c ∷ v ∷ u ∷ r ∷ []) h seen = four-tops c v u r [] h seen
-  tops-are (c ∷ v ∷ u ∷ r ∷ b ∷ []) h seen =
+  tops-by : (roots : List ℕ) → root_by_root n F roots ≡ true → ((k : ℕ) → 0 < count k roots → Seen k) → AreTops roots
+  tops-by [] h seen = absurd (not-both h)
+  tops-by (c ∷ []) h seen = absurd (not-both h)
+  tops-by (c ∷ v ∷ []) h seen = absurd (not-both h)
+  tops-by (c ∷ v ∷ u ∷ []) h seen = absurd (not-both h)
+  tops-by (c ∷ v ∷ u ∷ r ∷ []) h seen = four-tops c v u r [] h seen
+  tops-by (c ∷ v ∷ u ∷ r ∷ b ∷ []) h seen =
       four-tops c v u r (b ∷ []) (and-first (is_state n F c && is_versions_map n F v && is_history n F u && is_history n F r) (is_state n F b) h) seen
-  tops-are (c ∷ v ∷ u ∷ r ∷ b ∷ x ∷ xs) h seen = absurd (not-both h)
+  tops-by (c ∷ v ∷ u ∷ r ∷ b ∷ x ∷ xs) h seen = absurd (not-both h)
+
+  pub tops-are : (roots : List ℕ) → are_roots n F roots ≡ true → ((k : ℕ) → 0 < count k roots → Seen k) → AreTops roots
+  tops-are roots passed = tops-by roots (roots-passed n F roots passed)
 
   module _ (roots : List ℕ) (tops : AreTops roots) where
     abbrev images : List ℕ
@@ -432,7 +435,7 @@ module _ (n m : ℕ) (F H : Forms Bytes) (f g : ℕ → ℕ) (Seen : ℕ → Typ
       history-down path l passes = there-goes (down n F path l) (down m H path (g l)) (root-down (is_state n F) there-own there-ends there-new_ends path l passes)
 
       -- at each spot stands the image of what stood there, a row of none of the tries
-      pub found-goes : (s : Spot) → Goes g Own (found n F roots s) (found m H images s)
+      pub found-goes : (s : NamedSpot) → Goes g Own (found n F roots s) (found m H images s)
       found-goes (state_row o) = goes-weaker g (Passes (is_state n F)) Own state-own (state_at n F roots o) (state_at m H images o) (state-goes o)
       found-goes (buffer_cell o b) =
           goes-then g g (Passes (is_buffer_map n F)) Own (key_cell_of n F b) (key_cell_of m H b)

@@ -25,7 +25,7 @@ use Rattle.pool_check.proofs.PoolLaws.{get-low, vector-roots-well}
 use Rattle.pool_check.proofs.TestLemmas.{not-both}
 use Rattle.pool_check.proofs.VectorReadings.{map-twice}
 use Rattle.pool_carry.specs.Carried.{is_of_trie, AreImages, IsCarried}
-use Rattle.pool_carry.specs.Named.{Spot, children, found, found_in, KeepsIdentities}
+use Rattle.pool_carry.specs.Named.{NamedSpot, children, found, found_in, KeepsIdentities}
 use Rattle.pool_carry.proofs.OwnVectors.{relink-twice, vector-own}
 use Rattle.pool_carry.proofs.PlacedTries.{IsSeen, seen-placed, seen-back, seen-then, canon-placed, entries-placed, entry-seen}
 use Rattle.pool_carry.proofs.Goes.{Goes, goes-some, goes-image, goes-back}
@@ -128,7 +128,7 @@ module _ (from to : Rules) (bits : ℕ) (P : Pool) (valid : IsValidBy from P) (f
   abbrev Own : ℕ → Type 0
   Own = IsOwn F Seen
 
-  found-followed : (s : Spot) → Goes g Own (found_in P s) (found_in Q s)
+  found-followed : (s : NamedSpot) → Goes g Own (found_in P s) (found_in Q s)
   unfolding found_in roots_are_of_kind
   found-followed s =
       let roots : Q.roots ≡ map g P.roots = pool-roots many G tops rooted (settings_by bits MOST_HISTORY) ∙ map-twice place f P.roots in

@@ -21,14 +21,14 @@ pub data Origin : Type 0 where
   redo : ℕ → Origin
 
 -- a row or a cell, named by how one comes to it; from the root of a vector child numbers lead down
-pub data Spot : Type 0 where
-  state_row : Origin → Spot
-  buffer_cell : Origin → Bytes → Spot
-  star_cell : Origin → Bytes → Spot
-  vector_row : Origin → Bytes → List ℕ → Spot
-  version_cell : Bytes → Spot
-  undo_row : List ℕ → Spot
-  redo_row : List ℕ → Spot
+pub data NamedSpot : Type 0 where
+  state_row : Origin → NamedSpot
+  buffer_cell : Origin → Bytes → NamedSpot
+  star_cell : Origin → Bytes → NamedSpot
+  vector_row : Origin → Bytes → List ℕ → NamedSpot
+  version_cell : Bytes → NamedSpot
+  undo_row : List ℕ → NamedSpot
+  redo_row : List ℕ → NamedSpot
 
 -- the first and the second link of a pair or a state
 abbrev pub first_link : Option (Form Bytes) → Option ℕ
@@ -79,7 +79,7 @@ module _ (n : ℕ) (F : Forms Bytes) where
     stars_at o = option_and_then (λ s. second_link (F s)) (state_at o)
 
     -- the row or cell at the spot, if there is one
-    abbrev pub found : Spot → Option ℕ
+    abbrev pub found : NamedSpot → Option ℕ
     found (state_row o) = state_at o
     found (buffer_cell o b) = option_and_then (key_cell_of b) (buffers_at o)
     found (star_cell o s) = option_and_then (entry_of s) (stars_at o)
@@ -89,13 +89,13 @@ module _ (n : ℕ) (F : Forms Bytes) where
     found (redo_row path) = option_and_then (down path) (slice_get roots 3)
 
 -- the place of a pool's row or cell at the spot, if there is one
-unfoldable pub found_in : Pool → Spot → Option ℕ
+unfoldable pub found_in : Pool → NamedSpot → Option ℕ
 found_in P s = found (row_count P) (forms_in P) P.roots s
 
 -- the same spots are there in both pools, and two of them are one place in the one pool exactly where they are one in the other
 pub record KeepsIdentities (P Q : Pool) : Type 0 where
-  pub there : (s : Spot) → is_some (found_in P s) ≡ is_some (found_in Q s)
-  pub same : (s t : Spot) → (found_in P s ≡ found_in P t) ↔ (found_in Q s ≡ found_in Q t)
+  pub there : (s : NamedSpot) → is_some (found_in P s) ≡ is_some (found_in Q s)
+  pub same : (s t : NamedSpot) → (found_in P s ≡ found_in P t) ↔ (found_in Q s ≡ found_in Q t)
 
 -- Q, by its rules, is what P was by its own: with the same workspace, and nothing merged or split.
 pub record IsKept (from to : Rules) (P Q : Pool) : Type 0 where

@@ -20,7 +20,7 @@ mod EntryTests
 mod KeptRows
 mod FactLemmas
 mod FactRows
-mod RootLemmas
+pub mod RootLemmas
 mod CodeLists
 mod KeptLemmas
 mod DigitSteps

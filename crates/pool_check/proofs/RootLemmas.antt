@@ -1,12 +1,12 @@
 -- Roots by the facts of their rows, and the roots of a space.
-use Rattle.std.proofs.Common.{◌≡◌, ◌≢◌, ℕ, suc, ◌+◌, ◌<◌, Bool, true, false, ◌&&◌, List, [], ◌∷◌, length, drop, get_or, refl, ap, sym, ◌∙◌, arith}
+use Rattle.std.proofs.Common.{◌≡◌, ◌≢◌, ℕ, suc, ◌+◌, ◌<◌, Bool, true, false, ◌&&◌, ◌||◌, List, [], ◌∷◌, length, drop, get_or, refl, ap, sym, ◌∙◌, arith}
 use Rattle.std.proofs.lemmas.List.{drop_more}
 use Rattle.node_heap.specs.Forms.{Forms}
 use Rattle.pool_text.specs.Rows.{Bytes}
 use Rattle.pool_text.specs.Pool.{forms_in, row_count}
 use Rattle.pool_text.specs.declared.pool.Pool.{Pool}
-use Rattle.pool_check.specs.Kinds.{is_any_cell, is_name_cell, is_state, are_roots, roots_are_of_kind}
-use Rattle.pool_check.specs.Roots.{is_of, are_of, roots_are_of}
+use Rattle.pool_check.specs.Kinds.{is_any_cell, is_name_cell, is_state, is_versions_map, is_history, is_of, are_of, space_kinds, batch_kinds, are_roots, roots_are_of_kind}
+use Rattle.pool_check.specs.Roots.{roots_are_of}
 use Rattle.pool_check.specs.declared.root.RootKind.{RootKind}
 use Rattle.pool_check.specs.declared.root.RootKind.TheVariants.{Lines, Cells, CellMap, LinesMap, Names, NamedLines, State, Versions, History}
 use Rattle.pool_check.specs.declared.kinds.RowFacts.{RowFacts}
@@ -41,12 +41,6 @@ module _ (n : ℕ) (F : Forms Bytes) where
   other-many (kind ∷ kinds) (root ∷ roots) other =
       ap (λ b. is_of n F kind root && b) (other-many kinds roots (λ same. other (ap suc same))) ∙ and-false (is_of n F kind root)
 
-  abbrev outside : List RootKind
-  outside = State ∷ Versions ∷ History ∷ History ∷ []
-
-  abbrev in_batch : List RootKind
-  in_batch = State ∷ Versions ∷ History ∷ History ∷ State ∷ []
-
   four-and : (a b c d : Bool) → (a && (b && (c && (d && true)))) ≡ (a && b && c && d)
   four-and true true true true = refl
   four-and true true true false = refl
@@ -62,36 +56,57 @@ module _ (n : ℕ) (F : Forms Bytes) where
   five-and true false c d e = refl
   five-and false b c d e = refl
 
+  or-none : (b c : Bool) → c ≡ false → b ≡ (b || c)
+  or-none true c none = refl
+  or-none false c none = sym none
+
+  none-or : (b c : Bool) → b ≡ false → c ≡ (b || c)
+  none-or true c none = absurd (let never = none in cc)
+  none-or false c none = refl
+
   -- the roots of a space outside a batch, and in one
-  four-roots : (roots : List ℕ) → length roots ≢ 5 → are_of n F outside roots ≡ are_roots n F roots
+  four-roots : (roots : List ℕ) → length roots ≢ 5 → are_of n F space_kinds roots ≡ are_roots n F roots
   unfolding are_roots
-  four-roots (c ∷ v ∷ u ∷ r ∷ []) other = four-and (is_of n F State c) (is_of n F Versions v) (is_of n F History u) (is_of n F History r)
-  four-roots [] other = refl
-  four-roots (c ∷ []) other = other-many outside (c ∷ []) (λ e. omega (arith, e))
-  four-roots (c ∷ v ∷ []) other = other-many outside (c ∷ v ∷ []) (λ e. omega (arith, e))
-  four-roots (c ∷ v ∷ u ∷ []) other = other-many outside (c ∷ v ∷ u ∷ []) (λ e. omega (arith, e))
-  four-roots (c ∷ v ∷ u ∷ r ∷ b ∷ []) other = absurd (other refl)
-  four-roots (c ∷ v ∷ u ∷ r ∷ b ∷ x ∷ rest) other = other-many outside (c ∷ v ∷ u ∷ r ∷ b ∷ x ∷ rest) (λ e. omega (arith, e))
+  four-roots roots other = or-none (are_of n F space_kinds roots) (are_of n F batch_kinds roots) (other-many batch_kinds roots (λ e. other (sym e)))
 
-  five-roots : (roots : List ℕ) → length roots ≡ 5 → are_of n F in_batch roots ≡ are_roots n F roots
+  five-roots : (roots : List ℕ) → length roots ≡ 5 → are_of n F batch_kinds roots ≡ are_roots n F roots
   unfolding are_roots
-  five-roots (c ∷ v ∷ u ∷ r ∷ b ∷ []) many = five-and (is_of n F State c) (is_of n F Versions v) (is_of n F History u) (is_of n F History r) (is_of n F State b)
-  five-roots [] many = absurd (omega (arith, many))
-  five-roots (c ∷ []) many = absurd (omega (arith, many))
-  five-roots (c ∷ v ∷ []) many = absurd (omega (arith, many))
-  five-roots (c ∷ v ∷ u ∷ []) many = absurd (omega (arith, many))
-  five-roots (c ∷ v ∷ u ∷ r ∷ []) many = absurd (omega (arith, many))
-  five-roots (c ∷ v ∷ u ∷ r ∷ b ∷ x ∷ rest) many = absurd (omega (arith, many))
+  five-roots roots many = none-or (are_of n F space_kinds roots) (are_of n F batch_kinds roots) (other-many space_kinds roots (λ e. omega (arith, e, many)))
 
-pub roots-outside : (P : Pool) → length P.roots ≢ 5 → roots_are_of (State ∷ Versions ∷ History ∷ History ∷ []) P ≡ roots_are_of_kind P
+  -- fewer roots, or more
+  neither : (roots : List ℕ) → 4 ≢ length roots → 5 ≢ length roots → are_roots n F roots ≡ false
+  unfolding are_roots
+  neither roots no_four no_five = sym (none-or (are_of n F space_kinds roots) (are_of n F batch_kinds roots) (other-many space_kinds roots no_four)) ∙ other-many batch_kinds roots no_five
+
+  -- the test of a space's roots, one after another
+  abbrev pub root_by_root : List ℕ → Bool
+  root_by_root (c ∷ v ∷ u ∷ r ∷ []) = is_state n F c && is_versions_map n F v && is_history n F u && is_history n F r
+  root_by_root (c ∷ v ∷ u ∷ r ∷ b ∷ []) = is_state n F c && is_versions_map n F v && is_history n F u && is_history n F r && is_state n F b
+  root_by_root _ = false
+
+  pub roots-one_by_one : (roots : List ℕ) → are_roots n F roots ≡ root_by_root roots
+  unfolding are_roots
+  roots-one_by_one (c ∷ v ∷ u ∷ r ∷ []) = sym (four-roots (c ∷ v ∷ u ∷ r ∷ []) (λ e. omega (arith, e))) ∙ four-and (is_of n F State c) (is_of n F Versions v) (is_of n F History u) (is_of n F History r)
+  roots-one_by_one (c ∷ v ∷ u ∷ r ∷ b ∷ []) = sym (five-roots (c ∷ v ∷ u ∷ r ∷ b ∷ []) refl) ∙ five-and (is_of n F State c) (is_of n F Versions v) (is_of n F History u) (is_of n F History r) (is_of n F State b)
+  roots-one_by_one [] = refl
+  roots-one_by_one (c ∷ []) = neither (c ∷ []) (λ e. omega (arith, e)) (λ e. omega (arith, e))
+  roots-one_by_one (c ∷ v ∷ []) = neither (c ∷ v ∷ []) (λ e. omega (arith, e)) (λ e. omega (arith, e))
+  roots-one_by_one (c ∷ v ∷ u ∷ []) = neither (c ∷ v ∷ u ∷ []) (λ e. omega (arith, e)) (λ e. omega (arith, e))
+  roots-one_by_one (c ∷ v ∷ u ∷ r ∷ b ∷ x ∷ rest) = neither (c ∷ v ∷ u ∷ r ∷ b ∷ x ∷ rest) (λ e. omega (arith, e)) (λ e. omega (arith, e))
+
+  -- roots of a space that are tested one by one pass the test
+  pub roots-passed : (roots : List ℕ) → are_roots n F roots ≡ true → root_by_root roots ≡ true
+  roots-passed roots passed = sym (roots-one_by_one roots) ∙ passed
+
+pub roots-outside : (P : Pool) → length P.roots ≢ 5 → roots_are_of space_kinds P ≡ roots_are_of_kind P
 unfolding roots_are_of roots_are_of_kind
 roots-outside P other = four-roots (row_count P) (forms_in P) P.roots other
 
-pub roots-in-batch : (P : Pool) → length P.roots ≡ 5 → roots_are_of (State ∷ Versions ∷ History ∷ History ∷ State ∷ []) P ≡ roots_are_of_kind P
+pub roots-in-batch : (P : Pool) → length P.roots ≡ 5 → roots_are_of batch_kinds P ≡ roots_are_of_kind P
 unfolding roots_are_of roots_are_of_kind
 roots-in-batch P many = five-roots (row_count P) (forms_in P) P.roots many
 
-pub four-kinds : (P : Pool) (roots : List ℕ) (found : Bool) → roots ≡ P.roots → length P.roots ≡ 4 → found ≡ are_of (row_count P) (forms_in P) (State ∷ Versions ∷ History ∷ History ∷ []) roots → found ≡ roots_are_of_kind P
+pub four-kinds : (P : Pool) (roots : List ℕ) (found : Bool) → roots ≡ P.roots → length P.roots ≡ 4 → found ≡ are_of (row_count P) (forms_in P) space_kinds roots → found ≡ roots_are_of_kind P
 unfolding roots_are_of_kind
 four-kinds P roots found same many is =
-    is ∙ ap (are_of (row_count P) (forms_in P) (State ∷ Versions ∷ History ∷ History ∷ [])) same ∙ four-roots (row_count P) (forms_in P) P.roots (λ five. omega (arith, five, many))
+    is ∙ ap (are_of (row_count P) (forms_in P) space_kinds) same ∙ four-roots (row_count P) (forms_in P) P.roots (λ five. omega (arith, five, many))

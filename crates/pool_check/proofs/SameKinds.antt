@@ -1,5 +1,5 @@
 -- The tests of the roots' kinds and of the length of undo under other links, and the facts of rows.
-use Rattle.std.proofs.Common.{◌≡◌, ℕ, zero, suc, ◌<◌, ◌≤◌, Bool, true, ◌||◌, List, [], ◌∷◌, map, Option, Some, None, option_map, refl, ap, ◌∙◌, arith}
+use Rattle.std.proofs.Common.{◌≡◌, ℕ, zero, suc, ◌<◌, ◌≤◌, Bool, true, ◌||◌, List, [], ◌∷◌, map, Option, Some, None, option_map, refl, ap, sym, ◌∙◌, arith}
 use Rattle.std.specs.Prelude.{nat_le}
 use Rattle.std.specs.List.{list_all, filter_map, cons_option}
 use Rattle.std.proofs.lemmas.List.{length-map}
@@ -24,6 +24,7 @@ use Rattle.pool_check.proofs.TrieReadings.{trie-reads-the-same}
 use Rattle.pool_check.proofs.VectorReadings.{all-at, vector-reads-the-same}
 use Rattle.pool_check.proofs.SameVectors.{and-same, map-passes, length-same}
 use Rattle.pool_check.proofs.SameTries.{below-moved, link-falls}
+use Rattle.pool_check.proofs.RootLemmas.{roots-one_by_one}
 
 module _ (f : ℕ → ℕ) where
   cell-same : (p : Bytes → Bool) (r : Option (Form Bytes)) → is_cell_of p (option_map (relink f) r) ≡ is_cell_of p r
@@ -184,11 +185,12 @@ module _ (f : ℕ → ℕ) where
 
         -- four roots are of their kinds under other links where they are
         pub roots-same : (c v u r : ℕ) → IsAt c → IsAt v → IsAt u → IsAt r → are_roots m H (f c ∷ f v ∷ f u ∷ f r ∷ []) ≡ are_roots n G (c ∷ v ∷ u ∷ r ∷ [])
-        unfolding are_roots
         roots-same c v u r at_c at_v at_u at_r =
-            and-same _ (is_history m H (f r)) _ (is_history n G r)
+            roots-one_by_one m H (f c ∷ f v ∷ f u ∷ f r ∷ [])
+            ∙ and-same _ (is_history m H (f r)) _ (is_history n G r)
             (and-same _ (is_history m H (f u)) _ (is_history n G u)
             (and-same (is_state m H (f c)) (is_versions_map m H (f v)) (is_state n G c) (is_versions_map n G v) (state-same c at_c) (versions-same v at_v)) (history-same u at_u)) (history-same r at_r)
+            ∙ sym (roots-one_by_one n G (c ∷ v ∷ u ∷ r ∷ []))
 
         pub undo-same : (most c v u r : ℕ) → IsAt u → undo_is_within H most (f c ∷ f v ∷ f u ∷ f r ∷ []) ≡ undo_is_within G most (c ∷ v ∷ u ∷ r ∷ [])
         undo-same most c v u r at = ap (λ x. nat_le x most) (ap (λ h. length_at H h (f u)) (height-same u at.image) ∙ length-same f G H (height_in G u) u at.image)

@@ -9,7 +9,8 @@ use Rattle.pool_text.specs.declared.pool.Pool.{Pool}
 use Rattle.pool_check.specs.Vectors.{length_at}
 use Rattle.pool_check.specs.Shapes.{AreShapes}
 use Rattle.pool_check.specs.declared.vectors.Shape.{Shape}
-use Rattle.pool_check.specs.Kinds.{is_vector_root, elements_pass, is_state, is_versions_map, is_history, are_roots, roots_are_of_kind, undo_is_within, undo_fits}
+use Rattle.pool_check.specs.Kinds.{is_vector_root, elements_pass, is_state, is_versions_map, is_history, roots_are_of_kind, undo_is_within, undo_fits}
+use Rattle.pool_check.proofs.RootLemmas.{root_by_root, roots-passed}
 use Rattle.pool_check.proofs.TestLemmas.{and-first, and-second, not-both}
 
 module _ (n : ℕ) (F : Forms Bytes) where
@@ -22,8 +23,7 @@ module _ (n : ℕ) (F : Forms Bytes) where
 
   -- whether undo is within a bound, by a length that is that of the third root where this is a vector root
   within-by-length : (found most : ℕ) (roots : List ℕ) → ((c v u : ℕ) (rest : List ℕ) → roots ≡ c ∷ v ∷ u ∷ rest → is_vector_root (F u) ≡ true → found ≡ length_at F (height_in F u) u)
-      → are_roots n F roots ≡ true → leb found most ≡ undo_is_within F most roots
-  unfolding are_roots
+      → root_by_root n F roots ≡ true → leb found most ≡ undo_is_within F most roots
   within-by-length found most [] long are = absurd (not-both are)
   within-by-length found most (c ∷ []) long are = absurd (not-both are)
   within-by-length found most (c ∷ v ∷ []) long are = absurd (not-both are)
@@ -39,7 +39,7 @@ module _ (P : Pool) (shapes : List (Option Shape)) (are : AreShapes (forms_in P)
     (kinds : roots_are_of_kind P ≡ true) where
   fits-by-length : leb undo P.history ≡ undo_fits P
   unfolding roots_are_of_kind undo_fits
-  fits-by-length = within-by-length (row_count P) (forms_in P) undo P.history P.roots (λ c v u rest first root. long (forms_in P) c v u rest are (same ∙ first) root) kinds
+  fits-by-length = within-by-length (row_count P) (forms_in P) undo P.history P.roots (λ c v u rest first root. long (forms_in P) c v u rest are (same ∙ first) root) (roots-passed (row_count P) (forms_in P) P.roots kinds)
 
   pub not-fits : P.history < undo → undo_fits P ≡ false
   not-fits more = sym fits-by-length ∙ lt-leb undo P.history more

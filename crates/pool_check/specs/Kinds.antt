@@ -1,5 +1,5 @@
 -- The test of the roots' kinds.
-use Rattle.std.specs.Prelude.{ℕ, zero, suc, Bool, true, false, ◌&&◌, ◌==◌, nat_le, List, [], ◌∷◌, length, Option, Some}
+use Rattle.std.specs.Prelude.{ℕ, zero, suc, Bool, true, false, ◌&&◌, ◌||◌, ◌==◌, nat_le, List, [], ◌∷◌, length, Option, Some}
 use Rattle.std.specs.List.{list_all}
 use Rattle.elem_core.specs.Naming.{is_name}
 use Rattle.node_heap.specs.Forms.{Form, Forms, cell, node, leaf, inner, trie, pair, state, links_in}
@@ -7,6 +7,8 @@ use Rattle.rrb_core.specs.Seq.{height_in}
 use Rattle.pool_text.specs.Rows.{Bytes}
 use Rattle.pool_text.specs.Pool.{forms_in, row_count}
 use Rattle.pool_text.specs.declared.pool.Pool.{Pool}
+use Rattle.pool_check.specs.declared.root.RootKind.{RootKind}
+use Rattle.pool_check.specs.declared.root.RootKind.TheVariants.{Lines, Cells, CellMap, LinesMap, Names, NamedLines, State, Versions, History}
 use Rattle.pool_check.specs.Vectors.{length_at}
 use Rattle.pool_check.specs.Tries.{entries_below}
 
@@ -47,6 +49,14 @@ module _ {K : Type 0} where
   abbrev pub is_vector_of : Forms K → (ℕ → Bool) → ℕ → Bool
   is_vector_of F test l = is_vector_root (F l) && elements_pass F test (height_in F l) l
 
+-- what the roots of a space are
+abbrev pub space_kinds : List RootKind
+space_kinds = State ∷ Versions ∷ History ∷ History ∷ []
+
+-- in a batch a further state stands behind them
+abbrev pub batch_kinds : List RootKind
+batch_kinds = State ∷ Versions ∷ History ∷ History ∷ State ∷ []
+
 module _ (n : ℕ) (F : Forms Bytes) where
   -- whether the link is the root of a trie of such entries
   abbrev pub is_trie_of : (ℕ → Bool) → ℕ → Bool
@@ -86,13 +96,29 @@ module _ (n : ℕ) (F : Forms Bytes) where
   abbrev pub is_history : ℕ → Bool
   is_history = is_vector_of F is_state
 
-  -- the roots are a state, a versions map and two histories, and in a batch a further state
-  unfoldable pub are_roots : List ℕ → Bool
-  are_roots (c ∷ v ∷ u ∷ r ∷ []) = is_state c && is_versions_map v && is_history u && is_history r
-  are_roots (c ∷ v ∷ u ∷ r ∷ b ∷ []) = is_state c && is_versions_map v && is_history u && is_history r && is_state b
-  are_roots _ = false
+  -- whether the link is the root of what the kind says
+  abbrev pub is_of : RootKind → ℕ → Bool
+  is_of Lines = is_lines_vector
+  is_of Cells = is_cell_set
+  is_of CellMap = is_cell_map
+  is_of LinesMap = is_lines_map
+  is_of Names = is_stars_set
+  is_of NamedLines = is_buffer_map
+  is_of State = is_state
+  is_of Versions = is_versions_map
+  is_of History = is_history
 
--- the roots are of their kinds
+  -- whether there are as many roots as kinds, each of its own
+  abbrev pub are_of : List RootKind → List ℕ → Bool
+  are_of [] [] = true
+  are_of (kind ∷ kinds) (root ∷ roots) = is_of kind root && are_of kinds roots
+  are_of _ _ = false
+
+  -- the roots are those of a space, or of one in a batch
+  unfoldable pub are_roots : List ℕ → Bool
+  are_roots roots = are_of space_kinds roots || are_of batch_kinds roots
+
+-- a space's roots are of their kinds
 unfoldable pub roots_are_of_kind : Pool → Bool
 roots_are_of_kind P = are_roots (row_count P) (forms_in P) P.roots
 

@@ -34,7 +34,7 @@ use Rattle.edit_trie.proofs.MapLemmas.{found-link, zip-found}
 use Rattle.std.specs.Cmp.Lexicographic.{nat_list_cmp_total}
 use Rattle.champ_kinds.specs.Binding.{Binding, alike_keys, bind, binds, value_with}
 use Rattle.champ_kinds.specs.Kinds.{IsMapOf}
-use Rattle.edit_trie.specs.Edit.{by_bits, IsPairOf, OwnsPair}
+use Rattle.edit_trie.specs.Edit.{by_bits, IsPairOfKey, OwnsPair}
 use Rattle.edit_trie.specs.Laws.{KeepsBesideAndValues, EditsKeepValues, PairChangesBind, PairChangesKeepValues}
 use Rattle.shell_terms.specs.Edit.{Bytes}
 use Rattle.plain_space.specs.Workspace.{State, lines_of, with_lines}
@@ -218,7 +218,7 @@ module _ (keep : EditsKeepValues by_bytes text_code) {h1 h2 : Heap Bytes} {bits 
     }
 
 -- the row of the pair that a map has at a key
-pub pair-row : {h : Heap Bytes} {r : Root} {M : List (Binding Bytes)} {name : Bytes} {p w : ℕ} → IsMapOf by_bytes text_code h r M → IsPairOf by_bytes text_code h r name p → value_with by_bytes name M ≡ Some w → (key_cell : ℕ) × (form_at h p ≡ Some (node pair (key_cell ∷ w ∷ [])))
+pub pair-row : {h : Heap Bytes} {r : Root} {M : List (Binding Bytes)} {name : Bytes} {p w : ℕ} → IsMapOf by_bytes text_code h r M → IsPairOfKey by_bytes text_code h r name p → value_with by_bytes name M ≡ Some w → (key_cell : ℕ) × (form_at h p ≡ Some (node pair (key_cell ∷ w ∷ [])))
 pair-row {h} {r} {M} {name} {p} {w} map q at =
     let same = has-one-set by_bytes (code_by text_code r.bits) nat_list_cmp_total (form_at h) r.root map.entries q.entries map.rooted.trie q.rooted.trie in
     let found = found-link by_bytes name map.entries p (ap (option_map (λ (e : Entry Bytes). e.link)) (same-find (has_key by_bytes name) map.entries q.entries same (map.rooted.trie.distinct.once name)) ∙ q.there) in

@@ -17,6 +17,7 @@ use Rattle.pool_order.proofs.Places.{flat_map-has}
 use Rattle.pool_text.specs.Rules.{Rules}
 use Rattle.pool_check.specs.Tries.{entries_below}
 use Rattle.pool_check.specs.Kinds.{is_vector_root, is_trie_root, is_pair_of, is_state_of, is_cell_of, elements_pass, is_vector_of, is_trie_of, is_name_cell, is_lines_vector, is_buffer_map, is_stars_set, is_state, is_versions_map, is_history, are_roots}
+use Rattle.pool_check.proofs.RootLemmas.{root_by_root, roots-one_by_one}
 use Rattle.shell_terms.specs.Edit.{Bytes}
 use Rattle.plain_space.specs.Workspace.{Named, Names, State, Workspace}
 use Rattle.state_rows.specs.Reading.{IsVectorOver, IsText, AreLines, IsTrieOfNamesBy, IsNamedBy, AreNamesBy, IsStateBy}
@@ -81,12 +82,11 @@ module _ (F : Forms Bytes) (falls : LeadsDown (λ l. l) (links_in F)) (n : ℕ) 
         ∙ and_from (is_buffer_map n F is.buffers) (is_stars_set n F is.stars) (named-is (AreLines F (IsWellShaped F) bits) (is_lines_vector n F) lines-are is.buffers now.buffers is.buffers_are) (stars-are is.stars now.stars is.stars_are)
 
   pub roots-are : (rules : Rules) (roots : List ℕ) (W : Workspace) → StandForBy rules F (IsWellShaped F) bits roots W → are_roots n F roots ≡ true
-  unfolding are_roots
   roots-are rules [] W is = absurd is
   roots-are rules (c ∷ []) W is = absurd is
   roots-are rules (c ∷ v ∷ []) W is = absurd is
   roots-are rules (c ∷ v ∷ u ∷ []) W is = absurd is
-  roots-are rules (c ∷ v ∷ u ∷ r ∷ base) W is = by_base base W.base is.4
+  roots-are rules (c ∷ v ∷ u ∷ r ∷ base) W is = roots-one_by_one n F (c ∷ v ∷ u ∷ r ∷ base) ∙ by_base base W.base is.4
     where
       four : (is_state n F c && is_versions_map n F v && is_history n F u && is_history n F r) ≡ true
       four =
@@ -96,7 +96,7 @@ module _ (F : Forms Bytes) (falls : LeadsDown (λ l. l) (links_in F)) (n : ℕ) 
           (vector-is (IsStateBy rules F (IsWellShaped F) bits) (is_state n F) state-is u W.undo is.2))
           (vector-is (IsStateBy rules F (IsWellShaped F) bits) (is_state n F) state-is r W.redo is.3)
 
-      by_base : (base : List ℕ) (now : Option State) → IsBase (IsStateBy rules F (IsWellShaped F) bits) base now → are_roots n F (c ∷ v ∷ u ∷ r ∷ base) ≡ true
+      by_base : (base : List ℕ) (now : Option State) → IsBase (IsStateBy rules F (IsWellShaped F) bits) base now → root_by_root n F (c ∷ v ∷ u ∷ r ∷ base) ≡ true
       by_base [] None is = four
       by_base [] (Some now) is = absurd is
       by_base (l ∷ []) None is = absurd is

@@ -26,8 +26,9 @@ use Rattle.pool_text.specs.declared.pool.Pool.{Pool}
 use Rattle.pool_check.specs.Rows.{is_line_or_node, texts_are_lines}
 use Rattle.pool_check.specs.Vectors.{length_at}
 use Rattle.pool_check.specs.Tries.{entries_below}
-use Rattle.pool_check.specs.Kinds.{both_pass, is_vector_root, is_trie_root, is_pair_of, is_state_of, is_cell_of, elements_pass, is_vector_of, is_trie_of, is_name_cell, is_lines_vector, is_buffer_map, is_stars_set, is_state, is_versions_map, is_history, are_roots, roots_are_of_kind, undo_is_within, undo_fits}
+use Rattle.pool_check.specs.Kinds.{both_pass, is_vector_root, is_trie_root, is_pair_of, is_state_of, is_cell_of, elements_pass, is_vector_of, is_trie_of, is_name_cell, is_lines_vector, is_buffer_map, is_stars_set, is_state, is_versions_map, is_history, roots_are_of_kind, undo_is_within, undo_fits}
 use Rattle.pool_check.specs.Damages.{IsValidBy}
+use Rattle.pool_check.proofs.RootLemmas.{root_by_root, roots-passed}
 use Rattle.pool_check.proofs.TestLemmas.{and-first, and-second, not-both, all-at}
 use Rattle.pool_check.proofs.VectorLaw.{length_at-is}
 use Rattle.pool_check.proofs.PoolLaws.{vector-roots-well, trie-roots-canonical}
@@ -279,8 +280,7 @@ module _ {rules : Rules} (P : Pool) (valid : IsValidBy rules P) where
       let forth = vector-from (is_state n F) (IsStateBy rules F V P.bits) state-from r (and-second (is_state n F c && is_versions_map n F v && is_history n F u) (is_history n F r) h) in
       (now.0, kept.0, back.0, forth.0, now.1, kept.1, back.1, forth.1)
 
-  roots-from : (roots : List ℕ) → are_roots n F roots ≡ true → (W : Workspace) × StandForBy rules F V P.bits roots W × (W.history ≡ P.history)
-  unfolding are_roots
+  roots-from : (roots : List ℕ) → root_by_root n F roots ≡ true → (W : Workspace) × StandForBy rules F V P.bits roots W × (W.history ≡ P.history)
   roots-from [] h = absurd (not-both h)
   roots-from (c ∷ []) h = absurd (not-both h)
   roots-from (c ∷ v ∷ []) h = absurd (not-both h)
@@ -306,5 +306,5 @@ module _ {rules : Rules} (P : Pool) (valid : IsValidBy rules P) where
   pub valid-stands : (W : Workspace) × StandsForBy rules P W × HasBoundedUndo W
   unfolding roots_are_of_kind undo_fits
   valid-stands =
-      let from = roots-from P.roots valid.kinds in
+      let from = roots-from P.roots (roots-passed n F P.roots valid.kinds) in
       (from.0, (from.1, from.2), bounded-from P.roots from.0 from.1 from.2 valid.fits)

@@ -43,7 +43,7 @@ pub fn pushed(heap: &mut Heap<Text>, history: Flex, state: Link) -> Flex
     ensures made { MakesJust heap.old heap.new }
     ensures history { (bits : ℕ) (ss : List State) (s : State) → IsHistoryIn heap.old bits history ss → IsStateIn heap.old bits state s → IsHistoryIn heap.new bits result (ss ++ s ∷ []) }
 {
-    heap.is_graph();
+    heap.rows_form_a_graph();
     push_held(heap, history, state)
 }
 
@@ -62,7 +62,7 @@ pub fn popped(heap: &mut Heap<Text>, history: Flex) -> (Flex, Link)
     ensures alone { owners_at heap.old history ≡ 1 → heap.new.made ≤ heap.old.made + (length (pop_path (form_at heap.old) history) - alone heap.old (pop_path (form_at heap.old) history)) }
     ensures last { (bits : ℕ) (ss : List State) → IsHistoryIn heap.old bits history ss → IsSomeAnd (slice_get ss (length ss - 1)) (IsStateIn heap.new bits result.1) }
 {
-    heap.is_graph();
+    heap.rows_form_a_graph();
     pop_held(heap, history)
 }
 
@@ -80,7 +80,7 @@ pub fn shortened(heap: &mut Heap<Text>, history: Flex, states: u32) -> Flex
     ensures spares { KeepsToNeed heap.old heap.new 0 0 }
     ensures history { (bits : ℕ) (ss : List State) → IsHistoryIn heap.old bits history ss → IsHistoryIn heap.new bits result (drop states ss) }
 {
-    heap.is_graph();
+    heap.rows_form_a_graph();
     let Ok(rest) = drop_front(heap, history.view(), states) else {
         unreachable!()
     };
@@ -100,7 +100,7 @@ pub fn emptied(heap: &mut Heap<Text>, history: Flex) -> Flex
     ensures history { (bits : ℕ) → IsHistoryIn heap.new bits result [] }
     ensures same { (bits : ℕ) → IsHistoryIn heap.old bits history [] → (result ≡ history) × (heap.new ≡ heap.old) }
 {
-    heap.is_graph();
+    heap.rows_form_a_graph();
     if history.view().is_empty(heap) {
         return history;
     }

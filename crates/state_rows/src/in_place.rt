@@ -112,7 +112,7 @@ pub fn buffer_made(heap: &mut Heap<Text>, bits: u32, state: Link, key: Text, lin
     ensures spares { KeepsToNeed heap.old heap.new 0 0 }
     ensures state { (s : State) (xs : List Bytes) → IsStateIn heap.old bits state s → AreLinesIn heap.old bits lines xs → IsStateIn heap.new bits result (has_lines s key xs) }
 {
-    heap.is_graph();
+    heap.rows_form_a_graph();
     let state = heap.own(state);
     let Ok(_) = insert_at(heap, state, 0, bits, key, lines.into_root()) else {
         unreachable!()
@@ -130,7 +130,7 @@ fn own_lines(heap: &mut Heap<Text>, bits: u32, state: Link, name: Name<'_>) -> (
         × HasSpares heap.old 0 (ADD_NODES + 1 + alike_buffers bits s (name_bytes name)) }
     ensures { (s : State) (xs : List Bytes) → IsStateIn heap.old bits state s → lines_of s (name_bytes name.entry) ≡ Some xs → OwnsLines heap.old heap.new bits state result.0 s (name_bytes name.entry) xs result.1 }
 {
-    heap.is_graph();
+    heap.rows_form_a_graph();
     let row = heap.own(state);
     let pair = own_value_there(heap, row, 0, bits, &name);
     (row, pair)

@@ -6,7 +6,7 @@ use Rattle.state_rows.proofs.Room.{room-made, room-freed, room-then}
 use Rattle.state_rows.proofs.histories.emptied.Goals as goal
 
 pub returns-clause-keeps : goal.returns-clause-keeps
-returns-clause-keeps c = emptied-keeps c.args.history c.empty_history-empty.ensures.answered c.release.ensures.keeps c.is_graph.ensures c.release.ensures.releases.holds
+returns-clause-keeps c = emptied-keeps c.args.history c.empty_history-empty.ensures.answered c.release.ensures.keeps c.rows_form_a_graph.ensures c.release.ensures.releases.holds
 
 pub returns-clause-spares : goal.returns-clause-spares
 returns-clause-spares c = room-then (room-made c.empty_history-empty.ensures.makes) (room-freed c.release.ensures.releases)

@@ -19,12 +19,12 @@ pub returns-clause-keeps : goal.returns-clause-keeps
 returns-clause-keeps c = KeepsHeld-EditsBy c.pop_held.ensures.pops.edits
 
 pub returns-clause-history : goal.returns-clause-history
-returns-clause-history c = λ bits ss is. popped-history (pops-keep _) c.is_graph.ensures c.requires.held c.pop_held.ensures.pops is
+returns-clause-history c = λ bits ss is. popped-history (pops-keep _) c.rows_form_a_graph.ensures c.requires.held c.pop_held.ensures.pops is
 
 pub returns-clause-last : goal.returns-clause-last
 returns-clause-last c = λ bits ss is.
     let history = c.requires.history in
-    popped-last (pops-keep _) c.is_graph.ensures c.requires.held c.pop_held.ensures.pops (omega (arith, vector-many is, vector-many history.2, history.3)) is
+    popped-last (pops-keep _) c.rows_form_a_graph.ensures c.requires.held c.pop_held.ensures.pops (omega (arith, vector-many is, vector-many history.2, history.3)) is
 
 pub returns-clause-alone : goal.returns-clause-alone
 returns-clause-alone c = λ one. c.pop_held.ensures.pops.made

@@ -19,4 +19,4 @@ pub returns-clause-keeps : goal.returns-clause-keeps
 returns-clause-keeps c = KeepsHeld-EditsBy c.push_held.ensures.pushes.edits
 
 pub returns-clause-history : goal.returns-clause-history
-returns-clause-history c = λ bits ss s is at. pushed-history (pushes-keep _) c.is_graph.ensures c.requires.held c.push_held.ensures.pushes is at
+returns-clause-history c = λ bits ss s is at. pushed-history (pushes-keep _) c.rows_form_a_graph.ensures c.requires.held c.push_held.ensures.pushes is at

@@ -11,7 +11,7 @@ pub unreachable-requires : goal.unreachable-requires
 unreachable-requires c = let ample = c.in_default.ensures.ample c.requires.spares in cc
 
 pub returns-clause-keeps : goal.returns-clause-keeps
-returns-clause-keeps c = emptied-keeps c.args.history c.in-Ok.ensures.answered c.release.ensures.keeps c.is_graph.ensures c.release.ensures.releases.holds
+returns-clause-keeps c = emptied-keeps c.args.history c.in-Ok.ensures.answered c.release.ensures.keeps c.rows_form_a_graph.ensures c.release.ensures.releases.holds
 
 pub returns-clause-trades : goal.returns-clause-trades
 returns-clause-trades c =

@@ -5,8 +5,7 @@ use Rattle.elem_core.specs.Shown.{name_bytes}
 use Rattle.node_heap.specs.Forms.{links_of}
 use Rattle.node_heap.proofs.OwnerLemmas.{held-root}
 use Rattle.std.specs.Cmp.Lexicographic.{nat_list_cmp_total}
-use Rattle.edit_trie.proofs.LawLemmas.{edits-keep-values}
-use Rattle.edit_trie.proofs.PairLawLemmas.{pair-changes-bind, pair-changes-keep-values}
+use Rattle.edit_trie.proofs.CallerLemmas.{edits-keep-values, pair-changes-bind, pair-changes-keep-values}
 use Rattle.plain_space.specs.Workspace.{State}
 use Rattle.rrb_core.proofs.Stays.{links-form}
 use Rattle.state_rows.specs.InHeap.{IsStateIn}
@@ -51,7 +50,7 @@ returns c = λ s xs was found.
     let row = c.own-row.ensures in
     let own = c.own_value_there-pair.ensures.owns is.buffers_are.bindings map there in
     let pair = pair-row own.0.map own.0.pair own.0.value in
-    owns-way c.is_graph.ensures c.requires.held row.same row.sole row.builds row.makes row.owners
-    (owns-lines (edits-keep-values by_bytes text_code) row.builds.graph (held-root c.is_graph.ensures c.requires.held row.sole row.builds) is c.requires.bits found own.0
+    owns-way c.rows_form_a_graph.ensures c.requires.held row.same row.sole row.builds row.makes row.owners
+    (owns-lines (edits-keep-values by_bytes text_code) row.builds.graph (held-root c.rows_form_a_graph.ensures c.requires.held row.sole row.builds) is c.requires.bits found own.0
     (pair-changes-bind by_bytes text_code nat_list_cmp_total) (pair-changes-keep-values by_bytes text_code nat_list_cmp_total) c.args.name.named own.1 (c.own_value_there-pair.ensures.changes is.buffers_are.bindings map there) pair.0 pair.1 own.0.sole own.0.makes
     c.own_value_there-pair.ensures.spares (ap (λ k. ADD_NODES + k) (state-alike is name)))
