@@ -1,6 +1,6 @@
 -- What was executed and written, whatever the source tells.
-use Rattle.std.proofs.Common.{◌≡◌, ◌≢◌, ℕ, ◌+◌, ◌<◌, List, [], ◌∷◌, ◌++◌, length, take, drop, replicate, codes, sym, ap, ◌∙◌, subst, refl, arith, append_assoc, length-drop, None, Some, Ok, Err}
-use Rattle.std.proofs.lemmas.List.{append-nil, take-append-drop, length-replicate}
+use Rattle.std.proofs.Common.{◌≡◌, ◌≢◌, ℕ, ◌+◌, ◌<◌, List, [], ◌∷◌, ◌++◌, length, take, replicate, codes, sym, ap, ◌∙◌, subst, refl, arith, None, Some, Ok, Err}
+use Rattle.std.proofs.lemmas.List.{length-replicate}
 use Rattle.std.proofs.KnownBytes.{Appends-nil, Appends-trans}
 use Rattle.std.specs.declared.option.Option.{Option}
 use Rattle.std.specs.declared.result.Result.{Result}
@@ -23,30 +23,33 @@ use Rattle.elem_core.specs.declared.TheConstants.{MAX_LINE}
 use Rattle.ewig_shell.proofs.StepLemmas.{StepsOn-long}
 use Rattle.ewig_shell.proofs.RunLemmas.{StepsThrough-append, behind}
 
+-- one step more behind those before
+one_more : {C : Type 0} {D : store_trait.Ghosts C} (all before : List (List ℕ)) (piece : List ℕ) (W0 : SpaceView) (V0 : C) (replies reply : List ℕ) (W W' : SpaceView) (V V' : C) → all ≡ before ++ piece ∷ [] →
+    StepsThrough before D W0 V0 replies W V → StepsOn piece D W V reply W' V' → StepsThrough all D W0 V0 (replies ++ reply) W' V'
+one_more {D = D} all before piece W0 V0 replies reply W W' V V' is steps step =
+    subst (λ (w : List (List ℕ)). StepsThrough w D W0 V0 (replies ++ reply) W' V') (sym is) (StepsThrough-append W0 V0 before replies W V piece reply W' V' steps step)
+
 module _ {B C : Type 0} {asked : PlainOptions} {K : sink_trait.Ghosts B} {begin : B} {D : store_trait.Ghosts C} {first : C} where
   -- the replies so far are written
   written_all : {sink : B} {V : C} {W : SpaceView} (so_far : HasAnswered asked K begin sink D first V W None) → Appends (K.written begin) (K.written sink) so_far.replies
-  written_all {sink} so_far =
-      let none : so_far.unwritten ≡ [] = so_far.whole (λ e. cc) in
-      subst (λ (w : List ℕ). Appends (K.written begin) (K.written sink) w) (sym (append-nil so_far.output) ∙ ap (λ (w : List ℕ). so_far.output ++ w) (sym none) ∙ so_far.parts) so_far.writes
+  written_all {sink} so_far = subst (λ (w : List ℕ). Appends (K.written begin) (K.written sink) w) (so_far.whole (λ e. cc)) so_far.writes
 
-  module _ {sink sink' : B} {V' : C} {W' : SpaceView} (pieces : List (List ℕ)) (before reply : List ℕ)
-      (steps : StepsThrough (opening asked.first ++ pieces) D (start_view asked.bits) first (before ++ reply) W' V') (so_far : Appends (K.written begin) (K.written sink) before) where
-    -- one reply more was written, and the run goes on or ends
+  -- one piece more was executed behind those before, and its reply written, or not all of it
+  module _ {sink sink' : B} {V V' : C} {W W' : SpaceView} (pieces before : List (List ℕ)) (piece replies reply : List ℕ) (is : opening asked.first ++ pieces ≡ before ++ piece ∷ [])
+      (steps : StepsThrough before D (start_view asked.bits) first replies W V) (step : StepsOn piece D W V reply W' V') (so_far : Appends (K.written begin) (K.written sink) replies) where
+    -- the run goes on or ends
     answered_more : {w : Went} (ends : Option Status) → ends ≢ Some status.WriteFault → Sends K.written K.faults K.steady K.has_room sink sink' (Ok w) reply → HasAnswered asked K begin sink' D first V' W' ends
     answered_more ends other sends = record {
       pieces = pieces;
-      replies = before ++ reply;
-      steps = steps;
-      output = before ++ reply;
-      unwritten = [];
-      parts = append-nil (before ++ reply);
-      writes = Appends-trans _ _ _ before reply so_far sends.writes;
+      replies = replies ++ reply;
+      steps = one_more (opening asked.first ++ pieces) before piece (start_view asked.bits) first replies reply W W' V V' is steps step;
+      output = replies ++ reply;
+      writes = Appends-trans _ _ _ replies reply so_far sends.writes;
       whole = λ _. refl;
       cut = λ e. absurd (other e);
     }
 
-    -- or not, or not all of it
+    -- or the sink failed
     pub written : (result : Result Went Failed) → Sends K.written K.faults K.steady K.has_room sink sink' result reply → HasAnswered asked K begin sink' D first V' W' (status_of result)
     written (Ok went.On) sends = answered_more None (λ e. cc) sends
     written (Ok went.Quit) sends = answered_more (Some status.Done) (λ e. cc) sends
@@ -54,14 +57,28 @@ module _ {B C : Type 0} {asked : PlainOptions} {K : sink_trait.Ghosts B} {begin 
         let part = sends.writes in
         record {
           pieces = pieces;
-          replies = before ++ reply;
-          steps = steps;
-          output = before ++ take part.0 reply;
-          unwritten = drop part.0 reply;
-          parts = append_assoc before (take part.0 reply) (drop part.0 reply) ∙ ap (λ (w : List ℕ). before ++ w) (take-append-drop part.0 reply);
-          writes = Appends-trans _ _ _ before (take part.0 reply) so_far part.2;
+          replies = replies ++ reply;
+          steps = one_more (opening asked.first ++ pieces) before piece (start_view asked.bits) first replies reply W W' V V' is steps step;
+          output = replies ++ take part.0 reply;
+          writes = Appends-trans _ _ _ replies (take part.0 reply) so_far part.2;
           whole = λ other. absurd (other refl);
-          cut = λ _ none. absurd (omega (arith, part.1, length-drop part.0 reply, ap length none));
+          cut = λ _. (
+            before,
+            piece,
+            is,
+            record {
+              full_replies = replies;
+              mid_space = W;
+              mid_store = V;
+              steps = steps;
+              reply = reply;
+              step = step;
+              replies_are = refl;
+              count = part.0;
+              cut = part.1;
+              output_is = refl;
+            },
+          );
         }
 
   -- one piece more was executed
@@ -69,9 +86,8 @@ module _ {B C : Type 0} {asked : PlainOptions} {K : sink_trait.Ghosts B} {begin 
       HasAnswered asked K begin sink D first V W None → Replies K sink sink' result (λ (reply : List ℕ). StepsOn piece D W V reply W' V') → ends ≡ status_of result → HasAnswered asked K begin sink' D first V' W' ends
   Answered-next {sink' = sink'} {V} {V'} {W} {W'} {piece} {result} so_far replies e =
       subst (λ (o : Option Status). HasAnswered asked K begin sink' D first V' W' o) (sym e)
-      (written (so_far.pieces ++ piece ∷ []) so_far.replies replies.reply
-      (subst (λ (w : List (List ℕ)). StepsThrough w D (start_view asked.bits) first (so_far.replies ++ replies.reply) W' V') (behind (opening asked.first) so_far.pieces (so_far.pieces ++ piece ∷ []) piece refl)
-      (StepsThrough-append (start_view asked.bits) first _ so_far.replies W V piece replies.reply W' V' so_far.steps replies.due))
+      (written (so_far.pieces ++ piece ∷ []) (opening asked.first ++ so_far.pieces) piece so_far.replies replies.reply
+      (sym (behind (opening asked.first) so_far.pieces (so_far.pieces ++ piece ∷ []) piece refl)) so_far.steps replies.due
       (written_all so_far) result replies.sends)
 
   -- one that is too long, whatever it is
@@ -92,8 +108,6 @@ module _ {B C : Type 0} {asked : PlainOptions} {K : sink_trait.Ghosts B} {begin 
     replies = so_far.replies;
     steps = so_far.steps;
     output = so_far.output;
-    unwritten = so_far.unwritten;
-    parts = so_far.parts;
     writes = so_far.writes;
     whole = λ _. so_far.whole (λ e. cc);
     cut = λ e. absurd (other (let same = e in cc));
@@ -106,16 +120,13 @@ module _ {B C : Type 0} {asked : PlainOptions} {K : sink_trait.Ghosts B} {begin 
     replies = [];
     steps = subst (λ (o : Option (List ℕ)). StepsThrough (opening o ++ []) D (start_view asked.bits) first [] W' V) (sym is) (refl, opens.3 ∙ empty, opens.2);
     output = [];
-    unwritten = [];
-    parts = refl;
     writes = subst (λ (b : B). Appends (K.written begin) (K.written b) []) (sym opens.1) (Appends-nil (K.written begin));
     whole = λ _. refl;
     cut = λ e. absurd (let both = sym opens.0 ∙ e in cc);
   }
   Answered-opens {sink'} {V} {W} {W'} {ends} (Some file) is empty opens =
-      let reply = opens.replies.reply in
-      let step : StepsOn (codes "load " ++ file) D (start_view asked.bits) first reply W' V = subst (λ (v : SpaceView). StepsOn (codes "load " ++ file) D v first reply W' V) empty opens.replies.due in
+      let load : List ℕ = codes "load " ++ file in
+      let step = subst (λ (v : SpaceView). StepsOn load D v first opens.replies.reply W' V) empty opens.replies.due in
       subst (λ (o : Option Status). HasAnswered asked K begin sink' D first V W' o) (sym opens.ends_so)
-      (written [] [] reply
-      (subst (λ (o : Option (List ℕ)). StepsThrough (opening o ++ []) D (start_view asked.bits) first reply W' V) (sym is) (reply, W', V, [], step, (refl, refl, refl), sym (append-nil reply)))
+      (written [] [] load [] opens.replies.reply (ap (λ (o : Option (List ℕ)). opening o ++ []) is) (refl, refl, refl) step
       (Appends-nil (K.written begin)) opens.went opens.replies.sends)

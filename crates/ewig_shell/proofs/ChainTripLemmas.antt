@@ -9,6 +9,7 @@ use Rattle.std.specs.FinMap.{get, insert}
 use Rattle.shell_terms.specs.Edit.{Bytes}
 use Rattle.shell_terms.specs.Command.{save, part, chain}
 use Rattle.shell_words.specs.Files.{numbered}
+use Rattle.plain_space.specs.declared.TheConstants.{MOST_PARTS}
 use Rattle.plain_space.specs.declared.refusal.Refusal.TheVariants as why
 use Rattle.plain_space.specs.Workspace.{Workspace, in_batch}
 use Rattle.plain_space.specs.Refusing.{needs, unless}
@@ -20,12 +21,15 @@ use Rattle.pool_text.specs.declared.damage.Damage.{Damage}
 use Rattle.pool_delta.specs.Parts.{part_text}
 use Rattle.pool_delta.specs.Delta.{delta}
 use Rattle.pool_delta.specs.Chains.{chain_damage, chain_in, chain_pool, chain_with, chain_with_all, damage_with_all, more_damage, with_part}
+use Rattle.state_rows.specs.Standing.{StandsFor}
 use Rattle.space_state.specs.View.{SpaceView}
+use Rattle.shell_io.specs.Fault.{HasCause, last_count}
 use Rattle.shell_io.specs.InMemory.{Files}
 use Rattle.ewig_shell.specs.Step.{Machine, StoreView, KeepsFiles, Refuses, IsStored, Fetched, missing, large, given, with_file, fetched_within, fetched_all, chain_name, chain_names, most_stored, Makes, TakesFiles, IsPartDocumentOf, StoresPart, LoadsChain, ChainsFiles, Obeys, is_large, damage_word, FailsToStore, Gives}
-use Rattle.ewig_shell.specs.RoundTrip.{ok_reply, IsHindered, Leaves, SaveBegins, SaveThenPart, PartThenChain, PartThenPart}
+use Rattle.ewig_shell.specs.RoundTrip.{ok_reply, AreLarge, HasLargePart, IsHindered, Leaves, SaveBegins, SaveThenPart, PartThenChain, PartThenPart}
 use Rattle.ewig_shell.proofs.ChainLemmas.{total, next-given, next-large, names-one, chain-damage-append, chain-in-append}
 use Rattle.ewig_shell.proofs.LeavesLemmas.{get-stored, get-beside, then-told}
+use Rattle.ewig_shell.proofs.PartLemmas.{one_to_64}
 use Rattle.ewig_shell.proofs.ReplyLemmas.{no-refusal}
 use Rattle.ewig_shell.proofs.DocumentLemmas.{begins-chain}
 use Rattle.ewig_shell.proofs.RoundTripLemmas.{save-stored, part-of-store, said-ok, stored-if, ended}
@@ -34,7 +38,7 @@ use Rattle.ewig_shell.proofs.StepLemmas.{IsOutsideBatch}
 -- ## Names of the files of a chain
 
 -- a part has another name than each file before it
-name-apart : (file : Bytes) (j k : ℕ) → j < k → k ≤ 64 → chain_name file j ≢ numbered file k
+name-apart : (file : Bytes) (j k : ℕ) → j < k → k ≤ MOST_PARTS → chain_name file j ≢ numbered file k
 name-apart file zero k low few e =
     let same : length file ≡ length (file ++ 46 ∷ decimal k) = ap length e in
     let longer : length (file ++ 46 ∷ decimal k) ≡ length file + suc (length (decimal k)) = length-append file (46 ∷ decimal k) in
@@ -57,7 +61,7 @@ pub record HasChain (names : List Bytes) (later : Machine) (C : Pool) : Type 0 w
   pub taken : (fetched_all files most_stored names ≡ given (whole ∷ parts)) ⊎ (fetched_all files most_stored names ≡ large)
 
 -- the files before a part stay where it is stored
-others-stay : (fs : Files) (file bytes : Bytes) (number few : ℕ) → number ≤ 64 → few ≤ number → map (get (insert fs (numbered file number) bytes)) (chain_names file few) ≡ map (get fs) (chain_names file few)
+others-stay : (fs : Files) (file bytes : Bytes) (number few : ℕ) → number ≤ MOST_PARTS → few ≤ number → map (get (insert fs (numbered file number) bytes)) (chain_names file few) ≡ map (get fs) (chain_names file few)
 unfolding chain_names
 others-stay fs file bytes number zero small low = refl
 others-stay fs file bytes number (suc few) small low =
@@ -85,7 +89,7 @@ same-fetched fs gs (name ∷ names) room e =
     ∙ ap (λ (o : Option Bytes). fetched_within room o (λ bytes. with_file bytes (fetched_all gs (room - length bytes) names))) here
 
 -- the files of a chain, and the part that was stored behind them; or they have too many bytes together
-with-part : (fs : Files) (file bytes : Bytes) (number : ℕ) (front : List Bytes) → 1 ≤ number → number ≤ 64 → given front ≡ fetched_all fs most_stored (chain_names file number) →
+with-part : (fs : Files) (file bytes : Bytes) (number : ℕ) (front : List Bytes) → 1 ≤ number → number ≤ MOST_PARTS → given front ≡ fetched_all fs most_stored (chain_names file number) →
     (fetched_all (insert fs (numbered file number) bytes) most_stored (chain_names file (suc number)) ≡ given (front ++ bytes ∷ []))
     ⊎ (fetched_all (insert fs (numbered file number) bytes) most_stored (chain_names file (suc number)) ≡ large)
 unfolding chain_names
@@ -102,7 +106,7 @@ with-part fs file bytes number front some few so_far =
 
 -- the number of a part
 abbrev in_chain : ℕ → Bool
-in_chain number = nat_le 1 number && nat_le number 64
+in_chain number = nat_le 1 number && nat_le number MOST_PARTS
 
 number-granted : (batch fits : Bool) → unless batch why.Batch (needs fits why.Range (Ok elsewhere)) ≡ Ok elsewhere → fits ≡ true
 number-granted true fits e = let never : ◌≡◌ {A = Answer} (Err why.Batch) (Ok elsewhere) = e in cc
@@ -116,6 +120,13 @@ part-numbered W file number e = number-granted (in_batch W) (in_chain number) e
 chain-outside : (file : Bytes) (number : ℕ) → in_chain number ≡ true → IsOutsideBatch (chain file number)
 unfolding answer
 chain-outside file number e W = ap (λ (b : Bool). unless (in_batch W) why.Batch (needs b why.Range (Ok elsewhere))) e
+
+-- a number in a chain behind which none is
+past-most : (number : ℕ) → number ≤ MOST_PARTS → in_chain (number + 1) ≡ false → number ≡ MOST_PARTS
+past-most number few over = elim (cases_lt number MOST_PARTS) [
+  | inl low ↦ absurd (let both : true ≡ false = sym (one_to_64 (number + 1) (λ none. omega (arith, none)) (omega (arith, low))) ∙ over in cc)
+  | inr high ↦ omega (arith, few, high)
+]
 
 -- the chain of files that the part was stored behind, which was read when the store had come to this
 pub record IsParted (file : Bytes) (number : ℕ) (first parted : Machine) : Type 0 where
@@ -192,10 +203,10 @@ module _ (file : Bytes) (number : ℕ) (first parted : Machine) (is : IsParted f
   after = with_part is.before (delta is.before P)
 
   some : 1 ≤ number
-  some = leb-true 1 number (and_parts (nat_le 1 number) (nat_le number 64) is.numbered_so).0
+  some = leb-true 1 number (and_parts (nat_le 1 number) (nat_le number MOST_PARTS) is.numbered_so).0
 
-  few : number ≤ 64
-  few = leb-true number 64 (and_parts (nat_le 1 number) (nat_le number 64) is.numbered_so).1
+  few : number ≤ MOST_PARTS
+  few = leb-true number MOST_PARTS (and_parts (nat_le 1 number) (nat_le number MOST_PARTS) is.numbered_so).1
 
   pub whole-chain : chain_damage P.bits is.whole (is.parts ++ bytes ∷ []) ≡ None
   whole-chain =
@@ -244,7 +255,7 @@ one-taken fs file bytes small =
 
 -- and is a chain by itself later
 save-there : (file : Bytes) (first saved : Machine) → Obeys (save file) first ok_reply saved → (fs : Files) → first.store.files ≡ Some fs → (later : Machine) → Leaves (file ∷ []) saved later →
-    HasChain (chain_names file 1) later (at_present_version first.space.pool)
+    HasChain (chain_names file 1) later (at_present_version first.space.pool) × (AreLarge (chain_names file 1) later → ⊥)
 unfolding chain_names
 save-there file first saved saves fs told later left =
     let P : Pool = first.space.pool in
@@ -253,28 +264,41 @@ save-there file first saved saves fs told later left =
     let now = then-told first.store.files fs saved.store.files (λ before changed. changed ≡ insert before file bytes) told is.stored.files in
     let last = then-told saved.store.files now.0 later.store.files (λ before left_so. map (get left_so) (file ∷ []) ≡ map (get before) (file ∷ [])) now.1 left.files in
     let bits : later.space.pool.bits ≡ P.bits = left.bits ∙ ap (λ (s : SpaceView). s.pool.bits) is.same in
-    record {
-      whole = bytes;
-      parts = [];
-      undamaged =
-          ap (λ (b : ℕ). chain_damage b bytes []) bits
-          ∙ ap (λ (o : Option Damage). option_or o (option_and_then (λ C. damage_with_all C []) (pool_in_bytes bytes))) (save-begins first saved file saves)
-          ∙ ap (option_and_then (λ C. damage_with_all C [])) is.document.read;
-      is_chain = ap (option_and_then (λ C. chain_with_all C [])) is.document.read;
-      files = last.0;
-      told = last.1;
-      taken = inl (same-fetched last.0 now.0 (file ∷ []) most_stored last.2 ∙ ap (λ (gs : Files). fetched_all gs most_stored (file ∷ [])) now.2 ∙ one-taken fs file bytes is.small);
-    }
+    let fits : fetched_all last.0 most_stored (file ∷ []) ≡ given (bytes ∷ [])
+    = same-fetched last.0 now.0 (file ∷ []) most_stored last.2 ∙ ap (λ (gs : Files). fetched_all gs most_stored (file ∷ [])) now.2 ∙ one-taken fs file bytes is.small in (
+      record {
+        whole = bytes;
+        parts = [];
+        undamaged =
+            ap (λ (b : ℕ). chain_damage b bytes []) bits
+            ∙ ap (λ (o : Option Damage). option_or o (option_and_then (λ C. damage_with_all C []) (pool_in_bytes bytes))) (save-begins first saved file saves)
+            ∙ ap (option_and_then (λ C. damage_with_all C [])) is.document.read;
+        is_chain = ap (option_and_then (λ C. chain_with_all C [])) is.document.read;
+        files = last.0;
+        told = last.1;
+        taken = inl fits;
+      },
+      λ many.
+          let long : fetched_all last.0 most_stored (file ∷ []) ≡ large = subst (λ (o : Option Files). IfSome o (λ files. fetched_all files most_stored (file ∷ []) ≡ large)) last.1 many in
+          let never : given (bytes ∷ []) ≡ large = sym fits ∙ long in cc,
+    )
 
 -- ## What is made of a chain that is there
+
+-- a fault has its cause since an earlier count too
+caused-since : (before mid now : ℕ) → before ≤ mid → mid ≤ now → HasCause mid now → HasCause before now
+caused-since before mid now low high cause more = elim (cases_lt mid last_count) [
+  | inl less ↦ let rose = cause less in omega (arith, low, rose)
+  | inr last ↦ omega (arith, more, last, high)
+]
 
 module _ (file : Bytes) (number : ℕ) (C : Pool) (later last : Machine) (there : HasChain (chain_names file (number + 1)) later C) (reply : List ℕ) where
   -- from the machine as it is when the store has come to this
   abbrev at_mid : StoreView → Machine
   at_mid mid = record later { store = mid }
 
-  by-taken : (ByPool : Pool → Machine → List ℕ → Machine → Type 0) (End : Type 0) → ((mid : StoreView) → ByPool C (at_mid mid) reply last → End) →
-      (Refuses later.space (codes "large") reply last.space → End) → TakesFiles (chain_names file (number + 1)) later reply last (ChainsFiles ByPool) → End
+  by-taken : (ByPool : Pool → Machine → List ℕ → Machine → Type 0) (End : Type 0) → ((mid : StoreView) → KeepsFiles later.store mid → ByPool C (at_mid mid) reply last → End) →
+      (AreLarge (chain_names file (number + 1)) later → Refuses later.space (codes "large") reply last.space → End) → TakesFiles (chain_names file (number + 1)) later reply last (ChainsFiles ByPool) → End
   by-taken ByPool End chained many takes =
       let here : Machine = at_mid takes.mid in
       let made : (found : Fetched (List Bytes)) → fetched_all there.files most_stored (chain_names file (number + 1)) ≡ found → Makes (λ files. ChainsFiles ByPool files here) found here reply last
@@ -284,23 +308,24 @@ module _ (file : Bytes) (number : ℕ) (C : Pool) (later last : Machine) (there 
         | inl all ↦
             let ByDamage = λ (d : Damage). Refuses here (codes "damaged " ++ damage_word d) reply last in
             let ByChainPool = λ (D : Pool). ByPool D here reply last in
-            chained takes.mid
+            chained takes.mid takes.kept
             (subst (λ (o : Option Pool). IsSomeAnd o ByChainPool) there.is_chain
             (subst (λ (o : Option Damage). MatchOption o (IsSomeAnd (chain_in there.whole there.parts) ByChainPool) ByDamage) there.undamaged (made (given (there.whole ∷ there.parts)) all)))
         | inr long ↦
             let refuses = made large long in
-            many (record { reply_is = refuses.reply_is; same = ap (λ (m : Machine). m.space) refuses.same })
+            many (subst (λ (o : Option Files). IfSome o (λ files. fetched_all files most_stored (chain_names file (number + 1)) ≡ large)) (sym there.told) long)
+            (record { reply_is = refuses.reply_is; same = ap (λ (m : Machine). m.space) refuses.same })
       ]
 
   -- a chain of them
   abbrev Chained : Pool → Type 0
-  Chained P = (reply ≡ ok_reply) × (last.space.pool ≡ P) ⊎ Refuses later.space (codes "large") reply last.space ⊎ IsHindered later.space reply last.space
+  Chained P = (reply ≡ ok_reply) × (last.space.pool ≡ P) ⊎ AreLarge (chain_names file (number + 1)) later × Refuses later.space (codes "large") reply last.space ⊎ IsHindered later reply last
 
   by-chain : (P : Pool) → chain_pool C ≡ P → in_chain number ≡ true → Obeys (chain file number) later reply last → Chained P
   by-chain P stands so obeys = elim (ended (chain file number) (chain-outside file number so) later last reply obeys) [
     | inl says ↦ elim says [
-      | inl takes ↦ by-taken LoadsChain (Chained P) (λ mid loads. inl (loads.1.reply_is, loads.1.pool ∙ stands)) (λ many. inr (inl many)) takes
-      | inr fails ↦ inr (inr (inr (inl fails.space)))
+      | inl takes ↦ by-taken LoadsChain (Chained P) (λ mid kept loads. inl (loads.1.reply_is, loads.1.pool ∙ stands)) (λ long many. inr (inl (long, many))) takes
+      | inr fails ↦ inr (inr (inr (inl (fails.cause, fails.space))))
     ]
     | inr keeps ↦ elim keeps [
       | inl batch ↦ inr (inr (inl batch))
@@ -310,34 +335,34 @@ module _ (file : Bytes) (number : ℕ) (C : Pool) (later last : Machine) (there 
 
   -- a part behind them
   abbrev GoesOn : Type 0
-  GoesOn = (reply ≡ ok_reply) ⊎ Refuses later.space (codes "large") reply last.space ⊎ IsHindered later.space reply last.space
+  GoesOn = (reply ≡ ok_reply) ⊎ (AreLarge (chain_names file (number + 1)) later ⊎ HasLargePart later.space C) × Refuses later.space (codes "large") reply last.space ⊎ IsHindered later reply last
 
   refused-so : (reason : List ℕ) → Refuses later reason reply last → Refuses later.space reason reply last.space
   refused-so reason refuses = record { reply_is = refuses.reply_is; same = ap (λ (m : Machine). m.space) refuses.same }
-
-  by-stored : (too_large : Bool) (name written : Bytes) (mid : StoreView) → last.space ≡ later.space →
-      MatchBool too_large (Refuses (at_mid mid) (codes "large") reply last) (IsStored name written mid reply last.store ⊎ FailsToStore name mid reply last.store) → GoesOn
-  by-stored true name written mid same refuses = inr (inl (record { reply_is = refuses.reply_is; same = same }))
-  by-stored false name written mid same ends = elim ends [
-    | inl stored ↦ inl stored.reply_is
-    | inr fails ↦ inr (inr (inr (inl (record { reply_is = fails.reply_is; same = same }))))
-  ]
 
   -- its text
   abbrev own : Bytes
   own = part_text (delta C later.space.pool)
 
+  by-stored : (too_large : Bool) (name written : Bytes) (mid : StoreView) → KeepsFiles later.store mid → is_large own ≡ too_large → last.space ≡ later.space →
+      MatchBool too_large (Refuses (at_mid mid) (codes "large") reply last) (IsStored name written mid reply last.store ⊎ FailsToStore name mid reply last.store) → GoesOn
+  by-stored true name written mid kept long same refuses = inr (inl (inr long, record { reply_is = refuses.reply_is; same = same }))
+  by-stored false name written mid kept small same ends = elim ends [
+    | inl stored ↦ inl stored.reply_is
+    | inr fails ↦ inr (inr (inr (inl (caused-since later.store.faults mid.faults last.store.faults kept.counted fails.counted fails.cause, record { reply_is = fails.reply_is; same = same }))))
+  ]
+
   -- or there are as many parts as may be
   abbrev GoesOnIf : Bool → Type 0
   GoesOnIf fits = GoesOn ⊎ (fits ≡ false) × Refuses later.space (codes "range") reply last.space
 
-  by-said : (batch fits : Bool) (W : Workspace) → Gives (part file (number + 1)) later W (unless batch why.Batch (needs fits why.Range (Ok elsewhere))) reply last → GoesOnIf fits
-  by-said true fits W refuses = inl (inr (inr (inl (refused-so (codes "batch") refuses))))
-  by-said false false W refuses = inr (refl, refused-so (codes "range") refuses)
-  by-said false true W says = elim says [
+  by-said : (batch fits : Bool) (W : Workspace) → StandsFor later.space.pool W → in_batch W ≡ batch → Gives (part file (number + 1)) later W (unless batch why.Batch (needs fits why.Range (Ok elsewhere))) reply last → GoesOnIf fits
+  by-said true fits W stands so refuses = inl (inr (inr (inl ((W, stands, so), refused-so (codes "batch") refuses))))
+  by-said false false W stands so refuses = inr (refl, refused-so (codes "range") refuses)
+  by-said false true W stands so says = elim says [
     | inl takes ↦ inl (by-taken (StoresPart (numbered file (number + 1))) GoesOn
-        (λ mid stores. by-stored (is_large own) (numbered file (number + 1)) own mid stores.stores.space stores.stores.ends) (λ many. inr (inl many)) takes)
-    | inr fails ↦ inl (inr (inr (inr (inl fails.space))))
+        (λ mid kept stores. by-stored (is_large own) (numbered file (number + 1)) own mid kept refl stores.stores.space stores.stores.ends) (λ long many. inr (inl (inl long, many))) takes)
+    | inr fails ↦ inl (inr (inr (inr (inl (fails.cause, fails.space)))))
   ]
 
   part-answer : (W : Workspace) → answer W (part file (number + 1)) ≡ unless (in_batch W) why.Batch (needs (in_chain (number + 1)) why.Range (Ok elsewhere))
@@ -346,14 +371,21 @@ module _ (file : Bytes) (number : ℕ) (C : Pool) (later last : Machine) (there 
 
   by-part : Obeys (part file (number + 1)) later reply last → GoesOnIf (in_chain (number + 1))
   by-part obeys = elim obeys.gives [
-    | inl gives ↦ by-said (in_batch obeys.work) (in_chain (number + 1)) obeys.work (subst (λ (a : Answer). Gives (part file (number + 1)) later obeys.work a reply last) (part-answer obeys.work) gives)
+    | inl gives ↦ by-said (in_batch obeys.work) (in_chain (number + 1)) obeys.work obeys.stands refl (subst (λ (a : Answer). Gives (part file (number + 1)) later obeys.work a reply last) (part-answer obeys.work) gives)
     | inr lacks ↦ inl (inr (inr (inr (inr (record { reply_is = lacks.reply_is; same = lacks.space })))))
   ]
 
 pub save-then-part : SaveThenPart
 save-then-part first saved later last files file reply told saves left goes_on =
-    elim (by-part file 0 (at_present_version first.space.pool) later last (save-there file first saved saves files told later left) reply goes_on) [
-      | inl goes ↦ goes
+    let there = save-there file first saved saves files told later left in
+    elim (by-part file 0 (at_present_version first.space.pool) later last there.0 reply goes_on) [
+      | inl goes ↦ elim goes [
+        | inl done ↦ inl done
+        | inr ends ↦ elim ends [
+          | inl too_many ↦ elim (too_many.0) [ inl many ↦ absurd (there.1 many) | inr long ↦ inr (inl (long, too_many.1)) ]
+          | inr hindered ↦ inr (inr hindered)
+        ]
+      ]
       | inr over ↦ absurd (let never : true ≡ false = over.0 in cc)
     ]
 
@@ -368,7 +400,10 @@ part-then-part first parted later last files file reply number told parts left g
     elim (by-part file number (after file number first parted is) later last (part-there file number first parted is files told later left) reply goes_on) [
       | inl goes ↦ elim goes [
         | inl done ↦ inl done
-        | inr ends ↦ inr (inr ends)
+        | inr ends ↦ elim ends [
+          | inl too_many ↦ inr (inr (inl (elim (too_many.0) [ inl many ↦ inl many | inr long ↦ inr (after file number first parted is, is.document.stands, long) ], too_many.1)))
+          | inr hindered ↦ inr (inr (inr hindered))
+        ]
       ]
-      | inr over ↦ inr (inl over.1)
+      | inr over ↦ inr (inl (past-most number (few file number first parted is) over.0, over.1))
     ]

@@ -18,7 +18,8 @@ use Rattle.state_rows.proofs.Keys.{same-name, own-name}
 use Rattle.space_state.specs.View.{SpaceView}
 use Rattle.shell_io.specs.InMemory.{Files}
 use Rattle.shell_io.specs.Storing.{ChangesFiles, OthersStay}
-use Rattle.ewig_shell.specs.Step.{Machine, StoreView, KeepsFiles, Refuses, IsStored, FailsToStore, Stores, StoresPart, LoadsBytes, ReadsBytes, LoadsChain, ChainsFiles, Takes, TakesAll, SaysElsewhere, Gives, Obeys, Means, chain_names, ended_lines, is_large, is_long, damage_word}
+use Rattle.shell_io.specs.declared.device.Store as store_trait
+use Rattle.ewig_shell.specs.Step.{Machine, StoreView, KeepsFiles, Refuses, IsStored, FailsToStore, Stores, StoresPart, LoadsBytes, ReadsBytes, LoadsChain, ChainsFiles, Takes, TakesAll, SaysElsewhere, Gives, Obeys, Means, chain_names, ended_lines, is_large, is_long, damage_word, machine_of}
 use Rattle.ewig_shell.specs.RoundTrip.{Leaves, written, WritesElsewhere, LineLeaves, LinesLeave}
 use Rattle.ewig_shell.proofs.StepLemmas.{bits-kept, some_lines, made_by, by_chain}
 
@@ -178,8 +179,17 @@ module _ (names : List Bytes) (old new : Machine) (reply : List ℕ) where
 pub line-leaves : LineLeaves
 line-leaves names old new line reply apart step = by-length names old new reply (is_long line) line apart step
 
-pub lines-leave : LinesLeave
-lines-leave names old mid new first next = record {
+leaves-on : (names : List Bytes) (old mid new : Machine) → Leaves names old mid → Leaves names mid new → Leaves names old new
+leaves-on names old mid new first next = record {
   files = kept-on names old.store mid.store new.store first.files next.files;
   bits = next.bits ∙ first.bits;
 }
+
+pub lines-leave : {C : Type 0} (D : store_trait.Ghosts C) → LinesLeave D
+lines-leave D names [] old new store store' replies apart steps =
+    stays names (machine_of D old store) (machine_of D new store') replies (ap (λ (w : SpaceView). machine_of D w store') steps.1 ∙ ap (machine_of D old) steps.2)
+lines-leave D names (line ∷ lines) old new store store' replies apart steps =
+    let mid : Machine = machine_of D steps.1 steps.2 in
+    leaves-on names (machine_of D old store) mid (machine_of D new store')
+    (line-leaves names (machine_of D old store) mid line steps.0 (All-head (WritesElsewhere names) line lines apart) steps.4.step)
+    (lines-leave D names lines steps.1 new steps.2 store' steps.3 (All-tail (WritesElsewhere names) line lines apart) steps.5)

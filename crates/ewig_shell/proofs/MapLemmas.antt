@@ -5,6 +5,7 @@ use Rattle.std.proofs.lemmas.Bool.Decides.{nat_tests}
 use Rattle.std.proofs.lemmas.List.{length-map}
 use Rattle.shell_terms.specs.Edit.{Bytes}
 use Rattle.shell_terms.specs.Command.{indent, dedent}
+use Rattle.plain_space.specs.declared.TheConstants.{MOST_SPACES}
 use Rattle.plain_space.specs.declared.refusal.Refusal.TheVariants as why
 use Rattle.plain_space.specs.Workspace.{Workspace, all_lines_pass, in_batch}
 use Rattle.plain_space.specs.Refusing.{has_room_for}
@@ -33,7 +34,7 @@ use Rattle.ewig_shell.proofs.StepLemmas.{Obeys-lacks_so, ObeysOn-refused, Counts
 use Rattle.ewig_shell.proofs.SaveLemmas.{IsStorable, StoresPool, says-saves}
 
 -- so many spaces are too many, or not
-many : (n : ℕ) → 80 < n → nat_le n 80 ≡ false
+many : (n : ℕ) → MOST_SPACES < n → nat_le n MOST_SPACES ≡ false
 many n more = grind (arith, nat_tests)
 
 module _ (W : Workspace) (n : ℕ) (file : Bytes) where
@@ -46,40 +47,40 @@ module _ (W : Workspace) (n : ℕ) (file : Bytes) where
   dedent-inside e = rw e refl
 
   module _ (free : in_batch W ≡ false) where
-    pub indent-past : 80 < n → answer W (indent n file) ≡ Err why.Range
+    pub indent-past : MOST_SPACES < n → answer W (indent n file) ≡ Err why.Range
     unfolding answer
     indent-past more = let e = many n more in rw free (rw e refl)
 
-    pub dedent-past : 80 < n → answer W (dedent n file) ≡ Err why.Range
+    pub dedent-past : MOST_SPACES < n → answer W (dedent n file) ≡ Err why.Range
     unfolding answer
     dedent-past more = let e = many n more in rw free (rw e refl)
 
-    pub dedent-granted : n ≤ 80 → answer W (dedent n file) ≡ Ok elsewhere
+    pub dedent-granted : n ≤ MOST_SPACES → answer W (dedent n file) ≡ Ok elsewhere
     unfolding answer
-    dedent-granted few = let e = le-leb n 80 few in rw free (rw e refl)
+    dedent-granted few = let e = le-leb n MOST_SPACES few in rw free (rw e refl)
 
-    indent-granted : n ≤ 80 → all_lines_pass (has_room_for n) W ≡ true → answer W (indent n file) ≡ Ok elsewhere
+    indent-granted : n ≤ MOST_SPACES → all_lines_pass (has_room_for n) W ≡ true → answer W (indent n file) ≡ Ok elsewhere
     unfolding answer
-    indent-granted few room = let e = le-leb n 80 few in rw free (rw e (rw room refl))
+    indent-granted few room = let e = le-leb n MOST_SPACES few in rw free (rw e (rw room refl))
 
-    indent-long : n ≤ 80 → all_lines_pass (has_room_for n) W ≡ false → answer W (indent n file) ≡ Err why.Limit
+    indent-long : n ≤ MOST_SPACES → all_lines_pass (has_room_for n) W ≡ false → answer W (indent n file) ≡ Err why.Limit
     unfolding answer
-    indent-long few room = let e = le-leb n 80 few in rw free (rw e (rw room refl))
+    indent-long few room = let e = le-leb n MOST_SPACES few in rw free (rw e (rw room refl))
 
-    indent-may : n ≤ 80 → MayLack W (indent n file)
+    indent-may : n ≤ MOST_SPACES → MayLack W (indent n file)
     indent-may few = elim (cases_Bool (all_lines_pass (has_room_for n) W)) [
       | inl room ↦ inl (may_lack (indent n file) W refl (indent-granted few room))
       | inr none ↦ inr (refl, indent-long few none)
     ]
 
     -- memory ran out, whether or not a line is too long
-    pub indent-lacks : {C : Type 0} {D : store_trait.Ghosts C} {space : SpaceView} {store : C} → n ≤ 80 → StandsFor space.pool W → (result : Result (Unit {0}) StoreFault) → IsErrAnd result (λ (f : StoreFault). f ≡ fault.Memory) →
+    pub indent-lacks : {C : Type 0} {D : store_trait.Ghosts C} {space : SpaceView} {store : C} → n ≤ MOST_SPACES → StandsFor space.pool W → (result : Result (Unit {0}) StoreFault) → IsErrAnd result (λ (f : StoreFault). f ≡ fault.Memory) →
         ObeysOn (indent n file) D space store (stored_reply result) space store
     indent-lacks {D = D} {store = store} few stands result lacks =
         let is : stored_reply result ≡ refusal_of (codes "memory") = ap stored_reply (fault-is result fault.Memory lacks) in
         record { obeys = Obeys-lacks_so W stands (indent-may few) is refl (shown_store D store); counts = CountsStore-none (other-reply is refl) }
 
-    module _ (space : SpaceView) (few : n ≤ 80) (stands : StandsFor space.pool W) (needs : IndentNeedsRoom) (bits : space.pool.bits ≤ CODE_BITS) (valid : IsValid space.pool) where
+    module _ (space : SpaceView) (few : n ≤ MOST_SPACES) (stands : StandsFor space.pool W) (needs : IndentNeedsRoom) (bits : space.pool.bits ≤ CODE_BITS) (valid : IsValid space.pool) where
       room-is : KeepsCells (indented n) space.pool ↔ (all_lines_pass (has_room_for n) W ≡ true)
       room-is = needs present_rules space.pool W n (omega (arith, bits)) (four-roots space.pool W stands free) valid stands
 
@@ -106,7 +107,7 @@ module _ (W : Workspace) (n : ℕ) (file : Bytes) where
         says = says-saves (mapped (indented n)) file space;
       }
 
-pub dedent-stores : {space : SpaceView} (W : Workspace) (n : ℕ) (file : Bytes) → in_batch W ≡ false → n ≤ 80 → StandsFor space.pool W → StoresPool (dedent n file) W space file (mapped (dedented n) space.pool)
+pub dedent-stores : {space : SpaceView} (W : Workspace) (n : ℕ) (file : Bytes) → in_batch W ≡ false → n ≤ MOST_SPACES → StandsFor space.pool W → StoresPool (dedent n file) W space file (mapped (dedented n) space.pool)
 dedent-stores {space} W n file free few stands = record {
   stands = stands;
   granted = dedent-granted W n file free few;

@@ -8,6 +8,7 @@ use Rattle.shell_terms.specs.Edit.{Bytes}
 use Rattle.shell_terms.specs.Command.{PlainCommand, part, chain}
 use Rattle.shell_terms.specs.Kinds.{uses_store, wants_memory}
 use Rattle.shell_words.specs.Files.{numbered}
+use Rattle.plain_space.specs.declared.TheConstants.{MOST_PARTS}
 use Rattle.plain_space.specs.declared.refusal.Refusal.TheVariants as why
 use Rattle.plain_space.specs.Workspace.{Workspace, in_batch}
 use Rattle.plain_space.specs.Answer.{answer, elsewhere, ok_line}
@@ -43,21 +44,21 @@ use Rattle.ewig_shell.proofs.LoadLemmas.{kept}
 
 -- ## The plain answers
 
-one_to_64 : (number : ℕ) → (number ≡ 0 → ⊥) → number ≤ 64 → (nat_le 1 number && nat_le number 64) ≡ true
+pub one_to_64 : (number : ℕ) → (number ≡ 0 → ⊥) → number ≤ MOST_PARTS → (nat_le 1 number && nat_le number MOST_PARTS) ≡ true
 one_to_64 zero some few = absurd (some refl)
 one_to_64 (suc n) some few =
     let low : 1 ≤ suc n = omega arith in
     let first = le-leb 1 (suc n) low in
-    let second = le-leb (suc n) 64 few in
+    let second = le-leb (suc n) MOST_PARTS few in
     rw first (rw second refl)
 
-none-named : (number : ℕ) → number ≡ 0 → (nat_le 1 number && nat_le number 64) ≡ false
+none-named : (number : ℕ) → number ≡ 0 → (nat_le 1 number && nat_le number MOST_PARTS) ≡ false
 none-named number none = rw none refl
 
-past : (number : ℕ) → 64 < number → nat_le number 64 ≡ false
+past : (number : ℕ) → MOST_PARTS < number → nat_le number MOST_PARTS ≡ false
 past number more = grind (arith, nat_tests)
 
-too-many : (number : ℕ) → 64 < number → (nat_le 1 number && nat_le number 64) ≡ false
+too-many : (number : ℕ) → MOST_PARTS < number → (nat_le 1 number && nat_le number MOST_PARTS) ≡ false
 too-many zero more = absurd (omega (arith, more))
 too-many (suc n) more =
     let low : 1 ≤ suc n = omega arith in
@@ -75,11 +76,11 @@ module _ (W : Workspace) (file : Bytes) (number : ℕ) where
   chain-inside e = rw e refl
 
   module _ (free : in_batch W ≡ false) where
-    part-past : (nat_le 1 number && nat_le number 64) ≡ false → answer W (part file number) ≡ Err why.Range
+    part-past : (nat_le 1 number && nat_le number MOST_PARTS) ≡ false → answer W (part file number) ≡ Err why.Range
     unfolding answer
     part-past e = rw free (rw e refl)
 
-    chain-past : (nat_le 1 number && nat_le number 64) ≡ false → answer W (chain file number) ≡ Err why.Range
+    chain-past : (nat_le 1 number && nat_le number MOST_PARTS) ≡ false → answer W (chain file number) ≡ Err why.Range
     unfolding answer
     chain-past e = rw free (rw e refl)
 
@@ -89,13 +90,13 @@ module _ (W : Workspace) (file : Bytes) (number : ℕ) where
     pub chain-none : number ≡ 0 → answer W (chain file number) ≡ Err why.Range
     chain-none none = chain-past (none-named number none)
 
-    pub part-many : 64 < number → answer W (part file number) ≡ Err why.Range
+    pub part-many : MOST_PARTS < number → answer W (part file number) ≡ Err why.Range
     part-many more = part-past (too-many number more)
 
-    pub chain-many : 64 < number → answer W (chain file number) ≡ Err why.Range
+    pub chain-many : MOST_PARTS < number → answer W (chain file number) ≡ Err why.Range
     chain-many more = chain-past (too-many number more)
 
-    module _ (some : number ≡ 0 → ⊥) (few : number ≤ 64) where
+    module _ (some : number ≡ 0 → ⊥) (few : number ≤ MOST_PARTS) where
       part-granted : answer W (part file number) ≡ Ok elsewhere
       unfolding answer
       part-granted = let e = one_to_64 number some few in rw free (rw e refl)
@@ -132,7 +133,7 @@ pub record TakesFrom (command : PlainCommand) (W : Workspace) (space : SpaceView
   pub uses : uses_store command ≡ true
   pub says : (old new : Machine) (reply : List ℕ) → TakesAll names old reply new (ChainsFiles ByPool) → SaysElsewhere command old W reply new
 
-pub part-takes : {space : SpaceView} (W : Workspace) (file : Bytes) (number : ℕ) → StandsFor space.pool W → in_batch W ≡ false → (number ≡ 0 → ⊥) → number ≤ 64 → TakesFrom (part file number) W space (chain_names file number) (StoresPart (numbered file number))
+pub part-takes : {space : SpaceView} (W : Workspace) (file : Bytes) (number : ℕ) → StandsFor space.pool W → in_batch W ≡ false → (number ≡ 0 → ⊥) → number ≤ MOST_PARTS → TakesFrom (part file number) W space (chain_names file number) (StoresPart (numbered file number))
 part-takes W file number stands free some few = record {
   stands = stands;
   granted = part-granted W file number free some few;
@@ -141,7 +142,7 @@ part-takes W file number stands free some few = record {
   says = λ old new reply takes. takes;
 }
 
-pub chain-takes : {space : SpaceView} (W : Workspace) (file : Bytes) (number : ℕ) → StandsFor space.pool W → in_batch W ≡ false → (number ≡ 0 → ⊥) → number ≤ 64 → TakesFrom (chain file number) W space (chain_names file (number + 1)) LoadsChain
+pub chain-takes : {space : SpaceView} (W : Workspace) (file : Bytes) (number : ℕ) → StandsFor space.pool W → in_batch W ≡ false → (number ≡ 0 → ⊥) → number ≤ MOST_PARTS → TakesFrom (chain file number) W space (chain_names file (number + 1)) LoadsChain
 chain-takes W file number stands free some few = record {
   stands = stands;
   granted = chain-granted W file number free some few;

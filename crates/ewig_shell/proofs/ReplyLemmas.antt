@@ -6,6 +6,7 @@ use Rattle.shell_terms.specs.Edit.{Bytes}
 use Rattle.shell_terms.specs.Command.{PlainCommand, edit, merge, mark, unmark, back, undo, redo, begin, «end», abort, history, get, len, show, list, stars, marks, same as same_lines, eqv, stats, made, read, write, save, load, part, chain, indent, dedent, quit}
 use Rattle.shell_words.specs.declared.BadLine.{BadLine}
 use Rattle.shell_words.specs.declared.BadLine.TheVariants as bad
+use Rattle.plain_space.specs.declared.TheConstants.{MOST_PARTS, MOST_SPACES}
 use Rattle.plain_space.specs.declared.refusal.Refusal.{Refusal}
 use Rattle.plain_space.specs.declared.refusal.Refusal.TheVariants as why
 use Rattle.plain_space.specs.Workspace.{State, Workspace, most, lines_of, version_of, sizes, same_texts, same_state, merged_with, all_lines_pass, in_batch, undo_with}
@@ -131,10 +132,10 @@ module _ (W : Workspace) where
   answer-other (write name file) = by_given TellsOther (lines_of W.current name) why.Absent _ (λ lines. tt)
   answer-other (save file) = outside _ tt
   answer-other (load file) = outside _ tt
-  answer-other (part file number) = outside _ (by_needs TellsOther (nat_le 1 number && nat_le number 64) why.Range _ tt)
-  answer-other (chain file number) = outside _ (by_needs TellsOther (nat_le 1 number && nat_le number 64) why.Range _ tt)
-  answer-other (indent count file) = outside _ (by_needs TellsOther (nat_le count 80) why.Range _ (by_needs TellsOther (all_lines_pass (has_room_for count) W) why.Limit _ tt))
-  answer-other (dedent count file) = outside _ (by_needs TellsOther (nat_le count 80) why.Range _ tt)
+  answer-other (part file number) = outside _ (by_needs TellsOther (nat_le 1 number && nat_le number MOST_PARTS) why.Range _ tt)
+  answer-other (chain file number) = outside _ (by_needs TellsOther (nat_le 1 number && nat_le number MOST_PARTS) why.Range _ tt)
+  answer-other (indent count file) = outside _ (by_needs TellsOther (nat_le count MOST_SPACES) why.Range _ (by_needs TellsOther (all_lines_pass (has_room_for count) W) why.Limit _ tt))
+  answer-other (dedent count file) = outside _ (by_needs TellsOther (nat_le count MOST_SPACES) why.Range _ tt)
   answer-other quit = refl
 
 -- ## Commands that use no store

@@ -1,9 +1,10 @@
 -- What is stored and then loaded, and loaded and then stored.
-use Rattle.std.proofs.Common.{◌≡◌, ℕ, ◌&&◌, nat_le, List, ◌++◌, Bool, true, false, Option, None, Some, codes, length, refl, sym, ap, subst, ◌∙◌, inl, inr, ◌⊎◌, cond, MatchBool, MatchOption, IfSome, Ok, Err}
+use Rattle.std.proofs.Common.{◌≡◌, ℕ, ◌&&◌, nat_le, List, ◌++◌, Bool, true, false, Option, None, Some, codes, length, refl, sym, ap, subst, ◌∙◌, inl, inr, ◌⊎◌, cond, IsTrue, MatchBool, MatchOption, IfSome, Ok, Err}
 use Rattle.std.proofs.lemmas.Option.{same_Some}
 use Rattle.std.specs.FinMap.{get, insert}
 use Rattle.shell_terms.specs.Edit.{Bytes}
 use Rattle.shell_terms.specs.Command.{PlainCommand, save, load, part, indent, dedent}
+use Rattle.plain_space.specs.declared.TheConstants.{MOST_PARTS, MOST_SPACES}
 use Rattle.plain_space.specs.declared.refusal.Refusal.{Refusal}
 use Rattle.plain_space.specs.declared.refusal.Refusal.TheVariants as why
 use Rattle.plain_space.specs.Workspace.{Workspace, all_lines_pass, in_batch}
@@ -24,8 +25,8 @@ use Rattle.shell_io.specs.InMemory.{Files}
 use Rattle.shell_io.specs.Storing.{ChangesFiles}
 use Rattle.space_state.specs.View.{SpaceView}
 use Rattle.state_rows.proofs.FourRoots.{outside-batch}
-use Rattle.ewig_shell.specs.Step.{Machine, Refuses, Saves, IsStored, FailsToStore, IsLoaded, Fetched, large, given, fetched, Makes, TakesFile, LoadsBytes, SaysElsewhere, Gives, Obeys, is_large, damage_word, refusal_of}
-use Rattle.ewig_shell.specs.RoundTrip.{ok_reply, LoadThenSave, StoreThenLoad, SaveThenLoad, IndentThenLoad, DedentThenLoad}
+use Rattle.ewig_shell.specs.Step.{Machine, Refuses, Saves, IsStored, FailsToStore, IsLoaded, Fetched, large, given, fetched, Makes, TakesFile, LoadsBytes, SaysElsewhere, Gives, Obeys, is_large, damage_word}
+use Rattle.ewig_shell.specs.RoundTrip.{ok_reply, HasBatch, IsStopped, LoadThenSave, StoreThenLoad, SaveThenLoad, IndentThenLoad, DedentThenLoad}
 use Rattle.ewig_shell.proofs.DocumentLemmas.{present-stands, is-present}
 use Rattle.ewig_shell.proofs.ReplyLemmas.{no-refusal}
 use Rattle.ewig_shell.proofs.StepLemmas.{IsOutsideBatch, save-outside, load-outside}
@@ -58,19 +59,19 @@ load-of-store file W = unless-comes (in_batch W) why.Batch (Ok elsewhere) (inr r
 pub part-of-store : (file : Bytes) (number : ℕ) → IsOfStore (part file number)
 unfolding answer
 part-of-store file number W =
-    unless-comes (in_batch W) why.Batch (needs (nat_le 1 number && nat_le number 64) why.Range (Ok elsewhere))
-    (needs-comes (nat_le 1 number && nat_le number 64) why.Range (Ok elsewhere) (inr refl))
+    unless-comes (in_batch W) why.Batch (needs (nat_le 1 number && nat_le number MOST_PARTS) why.Range (Ok elsewhere))
+    (needs-comes (nat_le 1 number && nat_le number MOST_PARTS) why.Range (Ok elsewhere) (inr refl))
 
 indent-of-store : (count : ℕ) (file : Bytes) → IsOfStore (indent count file)
 unfolding answer
 indent-of-store count file W =
-    unless-comes (in_batch W) why.Batch (needs (nat_le count 80) why.Range (needs (all_lines_pass (has_room_for count) W) why.Limit (Ok elsewhere)))
-    (needs-comes (nat_le count 80) why.Range (needs (all_lines_pass (has_room_for count) W) why.Limit (Ok elsewhere))
+    unless-comes (in_batch W) why.Batch (needs (nat_le count MOST_SPACES) why.Range (needs (all_lines_pass (has_room_for count) W) why.Limit (Ok elsewhere)))
+    (needs-comes (nat_le count MOST_SPACES) why.Range (needs (all_lines_pass (has_room_for count) W) why.Limit (Ok elsewhere))
     (needs-comes (all_lines_pass (has_room_for count) W) why.Limit (Ok elsewhere) (inr refl)))
 
 dedent-of-store : (count : ℕ) (file : Bytes) → IsOfStore (dedent count file)
 unfolding answer
-dedent-of-store count file W = unless-comes (in_batch W) why.Batch (needs (nat_le count 80) why.Range (Ok elsewhere)) (needs-comes (nat_le count 80) why.Range (Ok elsewhere) (inr refl))
+dedent-of-store count file W = unless-comes (in_batch W) why.Batch (needs (nat_le count MOST_SPACES) why.Range (Ok elsewhere)) (needs-comes (nat_le count MOST_SPACES) why.Range (Ok elsewhere) (inr refl))
 
 -- what the store said where the reply is `ok`
 pub said-ok : (command : PlainCommand) (old new : Machine) → IsOfStore command → (obeys : Obeys command old ok_reply new) → (answer obeys.work command ≡ Ok elsewhere) × SaysElsewhere command old obeys.work ok_reply new
@@ -85,15 +86,15 @@ said-ok command old new of_store obeys = elim obeys.gives [
 -- the store has its say, or a batch is open, or memory ran out
 module _ (command : PlainCommand) (outside : IsOutsideBatch command) where
   by_batch : (batch : Bool) (old new : Machine) (W : Workspace) (reply : List ℕ) → Gives command old W (unless batch why.Batch (Ok elsewhere)) reply new
-      → Refuses old (codes "batch") reply new ⊎ SaysElsewhere command old W reply new
-  by_batch true old new W reply gives = inl gives
+      → IsTrue batch × Refuses old (codes "batch") reply new ⊎ SaysElsewhere command old W reply new
+  by_batch true old new W reply gives = inl (refl, gives)
   by_batch false old new W reply gives = inr gives
 
   pub ended : (old new : Machine) (reply : List ℕ) (obeys : Obeys command old reply new)
-      → SaysElsewhere command old obeys.work reply new ⊎ Refuses old.space (codes "batch") reply new.space ⊎ Refuses old.space (codes "memory") reply new.space
+      → SaysElsewhere command old obeys.work reply new ⊎ HasBatch old.space × Refuses old.space (codes "batch") reply new.space ⊎ Refuses old.space (codes "memory") reply new.space
   ended old new reply obeys = elim obeys.gives [
     | inl gives ↦ elim (by_batch (in_batch obeys.work) old new obeys.work reply (subst (λ (a : Answer). Gives command old obeys.work a reply new) (outside obeys.work) gives)) [
-      | inl refuses ↦ inr (inl (record { reply_is = refuses.reply_is; same = ap (λ (m : Machine). m.space) refuses.same }))
+      | inl refuses ↦ inr (inl ((obeys.work, obeys.stands, refuses.0), record { reply_is = refuses.1.reply_is; same = ap (λ (m : Machine). m.space) refuses.1.same }))
       | inr says ↦ inl says
     ]
     | inr lacks ↦ inr (inr (record { reply_is = lacks.reply_is; same = lacks.space }))
@@ -166,14 +167,14 @@ four-loaded bits bytes P whole read =
     let stands = undamaged-stands bits bytes whole in
     ap (λ (Q : Pool). length Q.roots) (same_Some P stands.0 (sym read ∙ stands.1.read)) ∙ stands.1.roots
 
-saved-if : (too_large : Bool) (name bytes reply : Bytes) (old new : Machine) → too_large ≡ false → text old.space.pool ≡ bytes
+saved-if : (too_large : Bool) (name bytes reply : Bytes) (old new : Machine) → too_large ≡ false → text old.space.pool ≡ bytes → new.space ≡ old.space
     → MatchBool too_large (Refuses old (codes "large") reply new) (IsStored name (text old.space.pool) old.store reply new.store ⊎ FailsToStore name old.store reply new.store)
     → (reply ≡ ok_reply) × ChangesFiles old.store.files new.store.files (λ before now. now ≡ insert before name bytes)
-    ⊎ (reply ≡ refusal_of (codes "fault")) ⊎ (reply ≡ refusal_of (codes "memory"))
-saved-if true name bytes reply old new small same ends = absurd (let never : true ≡ false = small in cc)
-saved-if false name bytes reply old new small same ends = elim ends [
+    ⊎ IsStopped old reply new
+saved-if true name bytes reply old new small same stays ends = absurd (let never : true ≡ false = small in cc)
+saved-if false name bytes reply old new small same stays ends = elim ends [
   | inl stored ↦ inl (stored.reply_is, subst (λ (b : Bytes). ChangesFiles old.store.files new.store.files (λ (before now : Files). now ≡ insert before name b)) same stored.files)
-  | inr fails ↦ inr (inl fails.reply_is)
+  | inr fails ↦ inr (inl (fails.cause, record { reply_is = fails.reply_is; same = stays }))
 ]
 
 pub load-then-save : LoadThenSave
@@ -187,8 +188,8 @@ load-then-save first loaded later last files file other bytes reply told there c
           let said : SaysElsewhere (save other) later saves.work reply last =
           subst (λ (b : Bool). Gives (save other) later saves.work (unless b why.Batch (Ok elsewhere)) reply last) (outside-batch later.space.pool saves.work saves.stands four)
           (subst (λ (a : Answer). Gives (save other) later saves.work a reply last) (save-outside other saves.work) gives) in
-          saved-if (is_large (text later.space.pool)) other bytes reply later last (ap is_large text_is ∙ read.0) text_is said.stores.ends
-      | inr lacks ↦ inr (inr lacks.reply_is)
+          saved-if (is_large (text later.space.pool)) other bytes reply later last (ap is_large text_is ∙ read.0) text_is said.stores.space said.stores.ends
+      | inr lacks ↦ inr (inr (record { reply_is = lacks.reply_is; same = lacks.space }))
     ]
 
 -- ## What was stored, and then a load
@@ -215,7 +216,7 @@ module _ {command : Bytes → PlainCommand} {pool_of : Pool → Pool} (is : Stor
               subst (λ (o : Option Damage). MatchOption o (IsLoaded (text P) later.space reply last.space) (λ (d : Damage). Refuses later.space (codes "damaged " ++ damage_word d) reply last.space)) whole small in
               let present = present-stands later.space.pool.bits (text P) last.space.pool (is-present (text P) (at_present_version P) stored.1.read refl) loaded.pool in
               inl (loaded.reply_is, same_Some last.space.pool (at_present_version P) (sym present.0 ∙ stored.1.read))
-          | inr fails ↦ inr (inr (inl fails.space))
+          | inr fails ↦ inr (inr (inl (fails.cause, fails.space)))
         ]
         | inr keeps ↦ elim keeps [
           | inl batch ↦ inr (inl batch)

@@ -164,16 +164,18 @@ module _ {B C : Type 0} {asked : PlainOptions} {K : sink_trait.Ghosts B} {begin 
           later = next.in_time.0;
           in_time = ap (λ (w : List (List ℕ)). opening asked.first ++ w) (given_then next) ∙ sym (append_assoc (opening asked.first) (pieces_given input old) (piece ∷ next.in_time.0));
           goes_on = opening-no_quit asked.first (pieces_given input old) going.goes_on;
-          full_replies = going.replies;
-          mid_space = W;
-          mid_store = V;
-          steps = going.steps;
-          reply = reply;
-          step = step;
-          replies_are = refl;
-          count = part.0;
-          cut = part.1;
-          output_is = refl;
+          breaks = record {
+            full_replies = going.replies;
+            mid_space = W;
+            mid_store = V;
+            steps = going.steps;
+            reply = reply;
+            step = step;
+            replies_are = refl;
+            count = part.0;
+            cut = part.1;
+            output_is = refl;
+          };
         };
         sink_sure = λ room has low.
             let first = going.writes.room room has (omega (arith, low, length-append going.replies reply)) in
@@ -316,16 +318,18 @@ module _ {B C : Type 0} {asked : PlainOptions} {K : sink_trait.Ghosts B} {sink s
           later = pieces_within most input;
           in_time = ap (λ (o : Option (List ℕ)). opening o ++ pieces_within most input) is;
           goes_on = no_quit;
-          full_replies = [];
-          mid_space = W;
-          mid_store = first;
-          steps = (refl, empty, refl);
-          reply = reply;
-          step = step;
-          replies_are = refl;
-          count = part.0;
-          cut = part.1;
-          output_is = refl;
+          breaks = record {
+            full_replies = [];
+            mid_space = W;
+            mid_store = first;
+            steps = (refl, empty, refl);
+            reply = reply;
+            step = step;
+            replies_are = refl;
+            count = part.0;
+            cut = part.1;
+            output_is = refl;
+          };
         };
         sink_sure = λ room has low. let never = (sends.sure room has low).0 in absurd (let e = never in cc);
       }

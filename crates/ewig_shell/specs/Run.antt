@@ -89,24 +89,30 @@ pub record IsTooLong {C : Type 0} (most : ℕ) (asked : PlainOptions) (D : store
   pub goes_on : ¬ HasQuit (pieces_within most run.input)
   pub executes : Executes asked (pieces_within most run.input) D run
 
--- Some first pieces were executed and their replies written. The next was executed too, and of its reply only the
--- first bytes were written. The line that loads the document is the first piece, where the words name one.
+-- The pieces before were executed, one after another, and their replies written. The next was executed too, and of its reply only the
+-- first bytes were written.
+pub record BreaksOff {C : Type 0} (before : List (List ℕ)) (piece : List ℕ) (D : store_trait.Ghosts C) (space : SpaceView) (store : C)
+    (replies output : List ℕ) (space' : SpaceView) (store' : C) : Type 0 where
+  pub full_replies : List ℕ
+  pub mid_space : SpaceView
+  pub mid_store : C
+  pub steps : StepsThrough before D space store full_replies mid_space mid_store
+  pub reply : List ℕ
+  pub step : StepsOn piece D mid_space mid_store reply space' store'
+  pub replies_are : replies ≡ full_replies ++ reply
+  pub count : ℕ
+  pub cut : count < length reply
+  pub output_is : output ≡ full_replies ++ take count reply
+
+-- It broke off at a piece, before which none was to quit. The line that loads the document is the first piece, where the words name
+-- one.
 pub record HasWriteFault {C : Type 0} (most : ℕ) (asked : PlainOptions) (D : store_trait.Ghosts C) (run : Run C) : Type 0 where
   pub before : List (List ℕ)
   pub piece : List ℕ
   pub later : List (List ℕ)
   pub in_time : opening asked.first ++ pieces_within most run.input ≡ before ++ piece ∷ later
   pub goes_on : ¬ HasQuit before
-  pub full_replies : List ℕ
-  pub mid_space : SpaceView
-  pub mid_store : C
-  pub steps : StepsThrough before D (start_view asked.bits) run.store full_replies mid_space mid_store
-  pub reply : List ℕ
-  pub step : IsSomeAnd run.last (λ last. StepsOn piece D mid_space mid_store reply last run.store')
-  pub replies_are : run.replies ≡ full_replies ++ reply
-  pub count : ℕ
-  pub cut : count < length reply
-  pub output_is : run.output ≡ full_replies ++ take count reply
+  pub breaks : IsSomeAnd run.last (λ last. BreaksOff before piece D (start_view asked.bits) run.store run.replies run.output last run.store')
 
 -- What the status says of a run of at most so many bytes, whose words read.
 abbrev pub Says : {C : Type 0} → Status → ℕ → PlainOptions → store_trait.Ghosts C → Run C → Type 0
@@ -154,19 +160,19 @@ pub record KeepsSure {C : Type 0} (D : store_trait.Ghosts C) (store store' : C) 
   pub sure : D.faultless store → D.faultless store' × (D.faults store' ≡ D.faults store)
 
 -- Whatever the source tells: behind the line that loads the document, where the words name one, some pieces were executed one after
--- another, on a new space by so many bits and the store. Their replies were written, all of them, or not all where the run ended with
--- a fault of its sink.
+-- another, on a new space by so many bits and the store. Their replies were written; where the run ended with a fault of its sink, all
+-- but the last reply, of which only the first bytes were.
 pub record HasAnswered {B C : Type 0} (asked : PlainOptions) (K : sink_trait.Ghosts B) (sink sink' : B) (D : store_trait.Ghosts C) (store store' : C)
     (space : SpaceView) (ends : Option Status) : Type 0 where
   pub pieces : List (List ℕ)
   pub replies : List ℕ
   pub steps : StepsThrough (opening asked.first ++ pieces) D (start_view asked.bits) store replies space store'
   pub output : List ℕ
-  pub unwritten : List ℕ
-  pub parts : output ++ unwritten ≡ replies
   pub writes : Appends (K.written sink) (K.written sink') output
-  pub whole : ends ≢ Some WriteFault → unwritten ≡ []
-  pub cut : ends ≡ Some WriteFault → unwritten ≢ []
+  pub whole : ends ≢ Some WriteFault → output ≡ replies
+  pub cut : ends ≡ Some WriteFault →
+      (before : List (List ℕ)) × (piece : List ℕ) × (opening asked.first ++ pieces ≡ before ++ piece ∷ [])
+      × BreaksOff before piece D (start_view asked.bits) store replies output space store'
 
 -- What a run promises whose words ask for no lines of the program's own. Where its source tells its bytes these are what it took and
 -- executed, and without a fault they alone decide.

@@ -15,6 +15,7 @@ ghost use Rattle.ewig_shell.specs.Chaining.{TakesChain, TakesChainIn, IsReadAs, 
 use crate::save::MOST_STORED;
 use crate::store_fault::StoreFault;
 use elem_core::{CODE_BITS, Name, NoMemory};
+use plain_space::MOST_PARTS;
 use pool_delta::{
     Chain, chain_checked, chain_more, chain_start, delta_bytes, delta_stands, deltas_are_undamaged,
 };
@@ -23,9 +24,6 @@ use shell_io::Store;
 use shell_words::numbered;
 use space_state::Space;
 use std::alloc::Global;
-
-/// The most partial documents in a chain.
-const MOST_PARTS: u32 = 64;
 
 /// Makes the space the one that a chain stands for: the document in the file, and the partial documents behind it up to this number.
 /// `Batch` exactly in a batch, else `Range` exactly where the number is 0 or more than 64. Else, unless the store fails at this call

@@ -4,6 +4,7 @@ ghost use Rattle.ewig_shell.specs.RoundTrip.{LoadThenSave, SaveThenLoad, IndentT
 ghost use Rattle.ewig_shell.specs.Stands.{DocumentsStand, OldDocumentsAreKept};
 
 use pool_carry::{carried_is_kept, carried_is_one, carried_is_valid, pools_are_carried};
+use shell_io::Store;
 
 /// Over a store that tells its files: a compact document of the present version that was loaded is stored byte for byte by a save
 /// of the pool that it left, where the store doesn't fail and memory doesn't run out.
@@ -24,9 +25,9 @@ pub fn lines_moved_then_load()
 {}
 
 /// Lines that write none of some files leave those as they are, and the bits of the space.
-pub fn lines_leave()
+pub fn lines_leave<D: Store>()
     ensures line { LineLeaves }
-    ensures lines { LinesLeave }
+    ensures lines { LinesLeave D.Store }
 {}
 
 /// What a save stored fails no test as the first document of a chain. Over a store that tells its files: while that file is left, the

@@ -7,13 +7,11 @@ ghost use Rattle.ewig_shell.specs.Step.{ObeysOn, stored_reply};
 use crate::save::keep_pool;
 use crate::store_fault::StoreFault;
 use elem_core::Name;
+use plain_space::MOST_SPACES;
 use pool_map::{dedent_keeps_lines, dedented, indent_needs_room, indented, mapped_is_valid};
 use shell_io::Store;
 use space_state::Space;
 use std::alloc::Global;
-
-/// The most spaces by which lines are moved.
-const MOST_SPACES: u32 = 80;
 
 /// Stores the document of the space's pool with so many spaces before each line in the file. `Batch` exactly in a batch, else `Range`
 /// exactly where these are more than 80; else, unless memory runs out before (`Memory`), `Limit` exactly where some line would be
