@@ -88,7 +88,7 @@ pub(crate) fn popped_here<T: Element>(heap: &mut Heap<T>, root: Link) -> Link
     ensures edits { (xs : List T) → IsListOf heap.old root xs → Edits IsListOf heap.old heap.new root result (take (length xs - 1) xs) }
     ensures made { heap.new.made ≤ heap.old.made + POP_NODES }
 {
-    heap.is_graph();
+    heap.rows_form_a_graph();
     let (left, given) = pop_held(heap, Flex::from_root(root));
     heap.release(given);
     left.into_root()

@@ -13,6 +13,7 @@ mod history;
 mod in_place;
 mod items;
 mod keyed;
+mod keyed_here;
 mod keys;
 mod limits;
 mod lists;

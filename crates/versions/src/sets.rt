@@ -13,9 +13,12 @@ ghost use Rattle.versions.specs.Sorted.{both, has, keys_of, less, remove_key, un
 use crate::equal::same_sets;
 use crate::faults::Refused;
 use crate::keyed::{has_key, has_no_key, key_count, no_keys, same_keys, with_key, without_key};
+use crate::keyed_here::{with_key_here, without_key_here};
 use crate::keys::Keys;
 use crate::merging::{keys_of_both, keys_of_either, keys_of_first};
-use crate::roots::{Handles, Version, forget, is_kept, keep, reserve, root_of, versions_of};
+use crate::roots::{
+    Handles, Version, forget, is_kept, keep, put as put_root, reserve, root_of, versions_of,
+};
 use elem_core::{Element, NoMemory, Probe};
 use node_heap::{Heap, Link};
 use slab::Slab;
@@ -26,8 +29,8 @@ use std::marker::Model;
 /// versions share what they have in common. A store that is dropped gives all of them back.
 #[derive(Drop)]
 pub struct Sets<K: Element> {
-    heap: Heap<K>,
-    roots: Slab<Link>,
+    pub(crate) heap: Heap<K>,
+    pub(crate) roots: Slab<Link>,
 }
 
 impl<K: Element> Model for Sets<K> {
@@ -157,6 +160,38 @@ impl<K: Element> Sets<K> {
         reserve(&mut self.heap, &mut self.roots, 0, 0)?;
         let root = keys_of_first(&mut self.heap, first, second)?;
         Ok(keep(&mut self.roots, root))
+    }
+
+    /// Puts the key into this version itself; an equal key that is there stays. Every other version stays. The rows on the
+    /// key's way are made anew, and those that no other version has are given back. Refused only where memory runs out.
+    pub fn insert_here(&mut self, version: Version, key: K) -> Result<(), Refused<K>>
+        requires { Holds self.old version }
+        ensures made { IfOk result (λ _. self.new ≡ map.insert self.old version (insert_key K.cmp (keys_of self.old version) key)) }
+        ensures refused { OnErr result (self.new ≡ self.old) }
+        ensures given_back { IfErr result (λ r. r.element ≡ key) }
+        ensures memory { IfErr result (λ r. r.fault ≡ Memory) }
+    {
+        let root = root_of(&self.roots, version);
+        match with_key_here(&mut self.heap, root, key) {
+            Ok(root) => {
+                put_root(&mut self.roots, version, root);
+                Ok(())
+            }
+            Err(key) => Err(Refused::no_memory(key)),
+        }
+    }
+
+    /// Takes the key out of this version itself. Every other version stays. The rows on the key's way are made anew, and those
+    /// that no other version has are given back.
+    pub fn remove_here<P: Probe<K>>(&mut self, version: Version, key: &P) -> Result<(), NoMemory>
+        requires { Holds self.old version }
+        ensures made { IfOk result (λ _. self.new ≡ map.insert self.old version (remove_key K.cmp (keys_of self.old version) (P.stands_for key.now))) }
+        ensures refused { OnErr result (self.new ≡ self.old) }
+    {
+        let root = root_of(&self.roots, version);
+        let root = without_key_here(&mut self.heap, root, key)?;
+        put_root(&mut self.roots, version, root);
+        Ok(())
     }
 
     /// Forgets the version. Every other stays.

@@ -13,7 +13,7 @@ pub returns-clause-edits : goal.returns-clause-edits
 returns-clause-edits g c = λ xs is.
     rw c.into_root.ensures
     (popped-here c.args.heap.now c.pop_held-left.new.heap c.args.root c.pop_held-left.result.0 c.pop_held-left.result.1 c.requires.held (rw c.from_root.ensures at c.pop_held-left.ensures.pops)
-    c.release.new.self xs c.is_graph.ensures c.release.ensures.releases c.release.ensures.keeps is)
+    c.release.new.self xs c.rows_form_a_graph.ensures c.release.ensures.releases c.release.ensures.keeps is)
 
 pub returns-clause-made : goal.returns-clause-made
 returns-clause-made g c =
