@@ -10,7 +10,7 @@ use Rattle.node_heap.specs.declared.row.Head.TheVariants as head
 
 module _ {T : Type 0} where
   -- a cell reaches itself alone
-  cell-reaches : (h : Heap T) (x : T) (l k : ℕ) → row_at h l ≡ Some (cell x) → Reaches (links_at h) l k → l ≡ k
+  pub cell-reaches : (h : Heap T) (x : T) (l k : ℕ) → row_at h l ≡ Some (cell x) → Reaches (links_at h) l k → l ≡ k
   cell-reaches h x l k is (here _) = refl
   cell-reaches h x l k is (below _ m _ has rest) = absurd (omega (arith, has, ap (λ r. count m (links_of r)) is))
 

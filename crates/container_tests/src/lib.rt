@@ -6,4 +6,6 @@ mod counted_rows;
 #[cfg(test)]
 mod elements;
 #[cfg(test)]
+mod turns;
+#[cfg(test)]
 mod writes;

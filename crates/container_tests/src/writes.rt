@@ -33,7 +33,7 @@ fn write_third<T>(heap: &mut Heap<T>, root: Link, value: T) -> (Link, Link)
     ensures few_cells { heap.old.spare_cells ≤ heap.new.spare_cells + 1 }
     ensures few_nodes { heap.old.spare_nodes ≤ heap.new.spare_nodes + 3 }
 {
-    heap.is_graph();
+    heap.rows_form_a_graph();
     let top = heap.own(root);
     let middle = heap.own_child(top, 0);
     let last = heap.own_child(middle, 0);

@@ -6,6 +6,8 @@ mod lists;
 #[cfg(test)]
 mod maps;
 #[cfg(test)]
+mod pools;
+#[cfg(test)]
 mod samples;
 #[cfg(test)]
 mod sets;

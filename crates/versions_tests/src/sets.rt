@@ -52,6 +52,16 @@ fn merged(
     made.expect(rt, "memory")
 }
 
+// Edits the version itself.
+fn edit(rt: &impl Abort, sets: &mut Sets<Num>, version: Version, making: Making) {
+    assert!(rt; sets.holds(version));
+    match making {
+        Making::Insert(number) => assert!(rt; sets.insert_here(version, Num(number)).is_ok()),
+        Making::Remove(number) => sets.remove_here(version, &Num(number)).expect(rt, "memory"),
+        Making::Copy => {}
+    }
+}
+
 // How many numbers the version has, and their sum up to 2^32 - 1; none where it isn't held.
 fn sums(sets: &Sets<Num>, version: Version) -> Option<(usize, u32)> {
     if !sets.holds(version) {
@@ -91,6 +101,28 @@ fn check_makes_sets(rt: &impl Abort, sets: &mut Sets<Num>) {
 fn makes_sets(rt: HostRuntime) {
     let mut sets = Sets::new(rt.alloc());
     check_makes_sets(&rt, &mut sets);
+}
+
+fn check_edits_sets(rt: &impl Abort, sets: &mut Sets<Num>) {
+    let first = four_and(rt, sets, 7);
+    let kept = made(rt, sets, first, Making::Copy);
+    let cases = [
+        (Making::Insert(9), (3, 20)),
+        (Making::Insert(7), (3, 20)),
+        (Making::Remove(4), (2, 16)),
+        (Making::Remove(5), (2, 16)),
+    ];
+    for (making, told) in cases {
+        edit(rt, sets, first, making);
+        assert!(rt; sums(sets, first) == Some(told));
+    }
+    assert!(rt; sums(sets, kept) == Some((2, 11)));
+}
+
+#[test]
+fn edits_sets(rt: HostRuntime) {
+    let mut sets = Sets::new(rt.alloc());
+    check_edits_sets(&rt, &mut sets);
 }
 
 fn check_merges_sets(rt: &impl Abort, sets: &mut Sets<Num>) {

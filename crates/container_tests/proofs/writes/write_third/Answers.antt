@@ -181,7 +181,7 @@ returns g c =
     let edit = third-edit top_links middle_links three.last_live c.own_child-middle.ensures.parent_links c.own_child-middle.ensures.sole c.own_child-middle.ensures.changes
     c.own_child-last.ensures.parent_links c.own_child-last.ensures.sole c.own_child-last.ensures.changes made.adds made.owners (Builds-cell made.adds made.makes made.count made.graph made.extends) c.replace-old.ensures.changes in
     let builds = c.own-top.ensures.builds in
-    let keeps = keeps-all c.args.heap.now h1 _ c.args.root top _ c.is_graph.ensures two.other builds c.own-top.ensures.sole edit in
+    let keeps = keeps-all c.args.heap.now h1 _ c.args.root top _ c.rows_form_a_graph.ensures two.other builds c.own-top.ensures.sole edit in
     let root = c.args.root in
     let old = c.replace-old.result in
     let last_links : 0 < length (links_at c.cell-cell.new.self last) = rw (made.adds.others last three.last_old, three.last_row) c.requires.last in

@@ -1,0 +1,17 @@
+pub mod SavedRead
+pub mod SavedBack
+pub mod SavedText
+pub mod StoresRead
+pub mod RiseLemmas
+pub mod SlotLemmas
+pub mod TrieTexted
+pub mod KnownRows
+pub mod Passes
+pub mod ListRoots
+pub mod SetRoots
+pub mod Readings
+pub mod SetReadings
+pub mod SaysLemmas
+pub mod ListSays
+pub mod SetSays
+pub mod LoadLemmas

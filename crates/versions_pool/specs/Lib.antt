@@ -1,0 +1,9 @@
+pub mod Saved
+pub mod Seen
+pub mod Stores
+pub mod Lists
+pub mod Sets
+pub mod Slots
+pub mod Loading
+pub mod Laws
+pub mod Worked
