@@ -71,7 +71,7 @@ pub fn came_back<T: Element>(heap: &mut Heap<T>, given: Option<Link>, value: Opt
     match given {
         None => value.is_none(),
         Some(link) => {
-            heap.is_graph();
+            heap.rows_form_a_graph();
             let same = value.is_some() && heap.value(link) == value.as_ref();
             heap.release(link);
             same
