@@ -205,7 +205,7 @@ PROOF
 }
 
 # The program over this repository's maps.
-take_crates elem_core node_heap champ_chain champ_trie champ_kinds edit_trie
+take_crates $version_crates
 begin_program map_rows 'champ_kinds champ_chain node_heap elem_core anyhow'
 # The contract of what makes one map of another, which is then given up.
 one_map='    requires good { IsGood T.cmp T.code_of heap.old map }
@@ -910,6 +910,217 @@ PROOF
 
 prove_and_build map_in_place
 runs+=("this repository, in place|$crate/out/map_in_place|")
+
+# add_versions WHAT: begins the program over a map of a store of versions, which WHAT says more of.
+add_versions() {
+    cat > "$crate/src/main.rt" <<PROGRAM
+//! Inserts, look-ups and removals over one map of a store of versions, $1, and the same over a copy that is kept.
+#![tactic(auto)]
+
+ghost use Rattle.std.specs.Prelude.{◌<◌, ◌^◌, IfOk};
+ghost use Rattle.versions.specs.Store.{Holds};
+
+use anyhow::Result;
+use elem_core::Num;
+use std::io;
+use std::rt::Clock;
+use std::time::CpuClock;
+use versions::{Maps, Version};
+
+fn main(rt: HostRuntime) -> Result<()> {
+    let mut maps = Maps::new(rt.alloc());
+    run(&rt, &mut maps)
+}
+
+// It stays until its input ends, so that the peak of its memory can be read.
+fn run(rt: &HostRuntime, maps: &mut Maps<Num, u32>) -> Result<()> {
+    phases(rt, maps)?;
+    let mut line = String::new(rt.alloc());
+    rt.read_line(&mut line)?;
+    Ok(())
+}
+
+fn phases(rt: &(impl Print + Clock + CpuClock), maps: &mut Maps<Num, u32>) -> Result<()> {
+    let none = maps.empty()?;
+    let left = alone(rt, maps, none)?;
+    beside(rt, maps, left)
+}
+
+// A map alone: a million keys come, are looked up, and go again.
+fn alone(
+    rt: &(impl Print + Clock + CpuClock),
+    maps: &mut Maps<Num, u32>,
+    none: Version,
+) -> Result<Version>
+    requires { Holds maps.old none }
+    ensures { IfOk result (λ v. Holds maps.new v) }
+{
+    tell(rt, "start", 0)?;
+    let all = inserts(maps, none, 0)?;
+    tell(rt, "insert", maps.len(all))?;
+    let sum = gets(maps, all, 0);
+    tell(rt, "get", sum)?;
+    let left = removes(maps, all, 0)?;
+    tell(rt, "remove", maps.len(left))?;
+    Ok(left)
+}
+
+// The same over a copy of the map, which is kept to the end.
+fn beside(
+    rt: &(impl Print + Clock + CpuClock),
+    maps: &mut Maps<Num, u32>,
+    none: Version,
+) -> Result<()>
+    requires { Holds maps.old none }
+{
+    let copy = inserts(maps, none, 0)?;
+    tell(rt, "again", maps.len(copy))?;
+    let both = over(rt, maps, copy)?;
+    tell(rt, "remove", maps.len(both))?;
+    // That it is still held is asked for once, and not proved over all the turns.
+    if maps.holds(copy) {
+        let sum = gets(maps, copy, 0);
+        tell(rt, "end", sum)?;
+    }
+    Ok(())
+}
+
+// Other keys come beside those of a version that stays, are looked up, and go again.
+fn over(
+    rt: &(impl Print + Clock + CpuClock),
+    maps: &mut Maps<Num, u32>,
+    kept: Version,
+) -> Result<Version>
+    requires { Holds maps.old kept }
+    ensures { IfOk result (λ v. Holds maps.new v) }
+{
+    let copy = maps.copy(kept)?;
+    let both = inserts(maps, copy, COUNT)?;
+    tell(rt, "insert", maps.len(both))?;
+    let sum = gets(maps, both, COUNT);
+    tell(rt, "get", sum)?;
+    removes(maps, both, COUNT)
+}
+
+fn inserts(maps: &mut Maps<Num, u32>, first: Version, from: u32) -> Result<Version>
+    requires { Holds maps.old first }
+    ensures { IfOk result (λ v. Holds maps.new v) }
+{
+    let mut version = first;
+    'turns: for turn in 0..COUNT {
+        version = inserted(maps, version, from.wrapping_add(turn))?;
+    }
+    Ok(version)
+}
+
+fn removes(maps: &mut Maps<Num, u32>, first: Version, from: u32) -> Result<Version>
+    requires { Holds maps.old first }
+    ensures { IfOk result (λ v. Holds maps.new v) }
+{
+    let mut version = first;
+    'turns: for turn in 0..COUNT {
+        version = removed(maps, version, from.wrapping_add(turn))?;
+    }
+    Ok(version)
+}
+
+fn gets(maps: &Maps<Num, u32>, version: Version, from: u32) -> usize
+    requires { Holds maps.now version }
+{
+    let mut sum: u32 = 0;
+    let mut seed = 1;
+    for _turn in 0..COUNT {
+        seed = scattered(seed);
+        sum = sum.wrapping_add(number_at(maps, version, from.wrapping_add(place(seed))));
+    }
+    sum as usize
+}
+
+fn number_at(maps: &Maps<Num, u32>, version: Version, turn: u32) -> u32
+    requires { Holds maps.now version }
+{
+    match maps.get(version, &key(turn)) {
+        Some(value) => *value,
+        None => 0,
+    }
+}
+
+// The key of a turn, as the other programs have it.
+fn key(turn: u32) -> Num {
+    let spread = turn.wrapping_mul(2_654_435_761);
+    Num(spread ^ (spread >> 15))
+}
+PROGRAM
+    add_measures usize
+    prove_versions maps inserts removes
+    prove_new_version phases alone 'c.empty.new.self c.in_ok-none.none'
+    prove_new_version over inserts 'c.copy.new.self c.in_ok-copy.copy'
+}
+
+# prove_new_version FUNCTION CALL MADE: the proof that CALL of a function is given a version that was just MADE.
+prove_new_version() {
+    mkdir -p "$crate/proofs/$1"
+    local made=${3##* }
+    cat > "$crate/proofs/$1/Answers.antt" <<PROOF
+use Rattle.versions.proofs.CallerLemmas.{new-held}
+use Rattle.$program.proofs.$1.Goals as goal
+
+pub $2-requires : goal.$2-requires
+$2-requires g c = new-held c.args.maps.now $3 _ ${made%.*}.ensures.made
+PROOF
+}
+
+# The program over a store of maps.
+begin_program map_versions 'versions elem_core anyhow'
+add_versions 'each new version beside the old, which is then forgotten'
+cat >> "$crate/src/main.rt" <<PROGRAM
+
+fn inserted(maps: &mut Maps<Num, u32>, version: Version, turn: u32) -> Result<Version>
+${one_version//STORE/maps}
+{
+    let new = maps.insert(version, key(turn), turn)?;
+    maps.forget(version);
+    Ok(new)
+}
+
+fn removed(maps: &mut Maps<Num, u32>, version: Version, turn: u32) -> Result<Version>
+${one_version//STORE/maps}
+{
+    let new = maps.remove(version, &key(turn))?;
+    maps.forget(version);
+    Ok(new)
+}
+PROGRAM
+prove_turned inserted insert maps
+prove_turned removed remove maps
+
+prove_and_build map_versions
+runs+=("this repository, Maps|$crate/out/map_versions|")
+
+# The program over a store of maps, edited in place.
+begin_program maps_in_place 'versions elem_core anyhow'
+add_versions 'each edit of the version itself'
+cat >> "$crate/src/main.rt" <<PROGRAM
+
+fn inserted(maps: &mut Maps<Num, u32>, version: Version, turn: u32) -> Result<Version>
+${one_version//STORE/maps}
+{
+    maps.insert_here(version, key(turn), turn)?;
+    Ok(version)
+}
+
+fn removed(maps: &mut Maps<Num, u32>, version: Version, turn: u32) -> Result<Version>
+${one_version//STORE/maps}
+{
+    maps.remove_here(version, &key(turn))?;
+    Ok(version)
+}
+PROGRAM
+prove_here inserted insert_here maps
+prove_here removed remove_here maps
+
+prove_and_build maps_in_place
+runs+=("this repository, Maps, in place|$crate/out/maps_in_place|")
 
 # The program over `im_rc::HashMap` and std's.
 begin_rust maps
