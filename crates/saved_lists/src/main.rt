@@ -2,14 +2,14 @@
 #![tactic(auto)]
 
 ghost use Rattle.std.specs.Prelude.{◌≡◌, IfOk};
+ghost use Rattle.versions.specs.Store.{Holds};
 
 use anyhow::{Context, Result};
 use elem_core::{Line, Stored, Text, text_of};
 use pool_text::Damage;
 use std::alloc::Global;
 use std::fmt::Debug;
-use std::process::Abort;
-use versions::Lists;
+use versions::{Lists, Version};
 use versions_pool::{load_lists, save_lists};
 
 /// What is loaded behind a save is the very store.
@@ -27,7 +27,7 @@ fn main(rt: HostRuntime) -> Result<()> {
 }
 
 fn run<T: Stored + Debug>(
-    rt: &(impl Abort + AllocGlobal + Print),
+    rt: &(impl AllocGlobal + Print),
     lists: &mut Lists<T>,
     texts: (T, T, T),
 ) -> Result<()> {
@@ -39,15 +39,23 @@ fn run<T: Stored + Debug>(
     show(rt, &saved_and_loaded(rt.alloc(), lists)?)
 }
 
-fn show<T: Stored>(rt: &(impl Abort + Print), lists: &Lists<T>) -> Result<()> {
+fn show<T: Stored>(rt: &impl Print, lists: &Lists<T>) -> Result<()> {
     for version in lists.versions() {
-        assert!(rt; lists.holds(version));
-        print!(rt; "{}:", version.number())?;
-        for element in lists.iter(version) {
-            print!(rt; " {}", element.text())?;
+        if lists.holds(version) {
+            show_list(rt, lists, version)?;
         }
-        println!(rt; "")?;
     }
+    Ok(())
+}
+
+fn show_list<T: Stored>(rt: &impl Print, lists: &Lists<T>, version: Version) -> Result<()>
+    requires { Holds lists.now version }
+{
+    print!(rt; "{}:", version.number())?;
+    for element in lists.iter(version) {
+        print!(rt; " {}", element.text())?;
+    }
+    println!(rt; "")?;
     Ok(())
 }
 
