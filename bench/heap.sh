@@ -10,7 +10,7 @@ set -eu
 begin "$@"
 rounds=10
 
-take_crates elem_core node_heap
+take_crates node_heap
 
 # write_program NAME LINKS: a program whose nodes have these links, of `cell` and `top`.
 write_program() {

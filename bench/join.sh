@@ -14,7 +14,7 @@ shortest=1000
 lengths=6
 
 # The program over this repository's vectors.
-take_crates elem_core node_heap rrb_core rrb_join
+take_crates rrb_join
 begin_program join_rows 'rrb_join rrb_core node_heap elem_core anyhow'
 cat > "$crate/src/main.rt" <<PROGRAM
 //! Splits, joins, inserts and erases over one vector, each new vector beside the old, which is then given up.

@@ -14,10 +14,7 @@ turns=5
 begin "$@"
 
 # The program over this repository's pools.
-below=$(sed -n 's/^pool_carry: //p' "$top/crates.txt" | tr ' ' '\n' | grep -vx indexmap | tr '\n' ' ')
-# `pool_carry` stands on most of them, and `pool_load` beside it.
-"$top/tools/prove-program" pool_load
-take_crates $below rrb_join edit_vec edit_trie pool_load pool_carry
+take_crates pool_load pool_carry
 begin_program load_parts 'pool_load pool_carry pool_check pool_text node_heap elem_core serde_json anyhow'
 cat > "$crate/src/main.rt" <<PROGRAM
 //! Reads the document of standard input over and over, and tells the clocks before and after each part of a load.

@@ -8,6 +8,7 @@
 # program outside the listed crates. Without cargo or `im_rc` it says so and runs the rest.
 set -eu
 . "$(dirname -- "$0")/shared.sh"
+. "$top/bench/stores.sh"
 begin "$@"
 
 # add_maps: adds to the program what both have in common: keys, look-ups, and a copy that is kept, with its proof, what is said of
@@ -205,7 +206,7 @@ PROOF
 }
 
 # The program over this repository's maps.
-take_crates $version_crates
+take_crates versions
 begin_program map_rows 'champ_kinds champ_chain node_heap elem_core anyhow'
 # The contract of what makes one map of another, which is then given up.
 one_map='    requires good { IsGood T.cmp T.code_of heap.old map }
@@ -260,11 +261,13 @@ fn alone<T: Numbered>(
 {
     tell(rt, "start", 0)?;
     let all = inserts(heap, none, 0)?;
-    tell(rt, "insert", all.len(heap))?;
+    tell(rt, "insert", 0)?;
+    tell(rt, "start", all.len(heap))?;
     let sum = gets(heap, all, 0);
     tell(rt, "get", sum)?;
     let left = removes(heap, all, 0)?;
-    tell(rt, "remove", left.len(heap))?;
+    tell(rt, "remove", 0)?;
+    tell(rt, "start", left.len(heap))?;
     Ok(left)
 }
 
@@ -282,11 +285,13 @@ fn beside<T: Numbered>(
     tell(rt, "again", copy.len(heap))?;
     keep(heap, copy);
     let both = inserts(heap, copy, COUNT)?;
-    tell(rt, "insert", both.len(heap))?;
+    tell(rt, "insert", 0)?;
+    tell(rt, "start", both.len(heap))?;
     let sum = gets(heap, both, COUNT);
     tell(rt, "get", sum)?;
     let left = removes(heap, both, COUNT)?;
-    tell(rt, "remove", left.len(heap))?;
+    tell(rt, "remove", 0)?;
+    tell(rt, "start", left.len(heap))?;
     let sum = gets(heap, copy, 0);
     tell(rt, "end", sum)?;
     Ok(())
@@ -599,11 +604,13 @@ $edits_map
 {
     tell(rt, "start", 0)?;
     inserts(heap, map, 0)?;
-    tell(rt, "insert", map.view().len(heap))?;
+    tell(rt, "insert", 0)?;
+    tell(rt, "start", map.view().len(heap))?;
     let sum = gets(heap, map.view(), 0);
     tell(rt, "get", sum)?;
     removes(heap, map, 0)?;
-    tell(rt, "remove", map.view().len(heap))?;
+    tell(rt, "remove", 0)?;
+    tell(rt, "start", map.view().len(heap))?;
     Ok(())
 }
 
@@ -622,11 +629,13 @@ fn beside<T: Numbered>(
     tell(rt, "again", copy.len(heap))?;
     keep(heap, copy);
     inserts(heap, map, COUNT)?;
-    tell(rt, "insert", map.view().len(heap))?;
+    tell(rt, "insert", 0)?;
+    tell(rt, "start", map.view().len(heap))?;
     let sum = gets(heap, map.view(), COUNT);
     tell(rt, "get", sum)?;
     removes(heap, map, COUNT)?;
-    tell(rt, "remove", map.view().len(heap))?;
+    tell(rt, "remove", 0)?;
+    tell(rt, "start", map.view().len(heap))?;
     let sum = gets(heap, copy, 0);
     tell(rt, "end", sum)?;
     Ok(())
@@ -911,36 +920,14 @@ PROOF
 prove_and_build map_in_place
 runs+=("this repository, in place|$crate/out/map_in_place|")
 
-# add_versions WHAT: begins the program over a map of a store of versions, which WHAT says more of.
+# add_versions WAY: the program over a map of a store of versions.
 add_versions() {
-    cat > "$crate/src/main.rt" <<PROGRAM
-//! Inserts, look-ups and removals over one map of a store of versions, $1, and the same over a copy that is kept.
-#![tactic(auto)]
+    begin_store "maps_$1" maps 'Maps<Num, u32>' usize \
+        "Inserts, look-ups and removals over one map of a store of versions, and over one of which a copy is kept, by edits ${1/_/ }." \
+        std::process::Abort
+    cat >> "$crate/src/main.rt" <<'PROGRAM'
 
-ghost use Rattle.std.specs.Prelude.{◌<◌, ◌^◌, IfOk};
-ghost use Rattle.versions.specs.Store.{Holds};
-
-use anyhow::Result;
-use elem_core::Num;
-use std::io;
-use std::rt::Clock;
-use std::time::CpuClock;
-use versions::{Maps, Version};
-
-fn main(rt: HostRuntime) -> Result<()> {
-    let mut maps = Maps::new(rt.alloc());
-    run(&rt, &mut maps)
-}
-
-// It stays until its input ends, so that the peak of its memory can be read.
-fn run(rt: &HostRuntime, maps: &mut Maps<Num, u32>) -> Result<()> {
-    phases(rt, maps)?;
-    let mut line = String::new(rt.alloc());
-    rt.read_line(&mut line)?;
-    Ok(())
-}
-
-fn phases(rt: &(impl Print + Clock + CpuClock), maps: &mut Maps<Num, u32>) -> Result<()> {
+fn phases(rt: &(impl Abort + Print + Clock + CpuClock), maps: &mut Maps<Num, u32>) -> Result<()> {
     let none = maps.empty()?;
     let left = alone(rt, maps, none)?;
     beside(rt, maps, left)
@@ -957,17 +944,19 @@ fn alone(
 {
     tell(rt, "start", 0)?;
     let all = inserts(maps, none, 0)?;
-    tell(rt, "insert", maps.len(all))?;
+    tell(rt, "insert", 0)?;
+    tell(rt, "start", maps.len(all))?;
     let sum = gets(maps, all, 0);
     tell(rt, "get", sum)?;
     let left = removes(maps, all, 0)?;
-    tell(rt, "remove", maps.len(left))?;
+    tell(rt, "remove", 0)?;
+    tell(rt, "start", maps.len(left))?;
     Ok(left)
 }
 
 // The same over a copy of the map, which is kept to the end.
 fn beside(
-    rt: &(impl Print + Clock + CpuClock),
+    rt: &(impl Abort + Print + Clock + CpuClock),
     maps: &mut Maps<Num, u32>,
     none: Version,
 ) -> Result<()>
@@ -976,12 +965,12 @@ fn beside(
     let copy = inserts(maps, none, 0)?;
     tell(rt, "again", maps.len(copy))?;
     let both = over(rt, maps, copy)?;
-    tell(rt, "remove", maps.len(both))?;
+    tell(rt, "remove", 0)?;
+    tell(rt, "start", maps.len(both))?;
     // That it is still held is asked for once, and not proved over all the turns.
-    if maps.holds(copy) {
-        let sum = gets(maps, copy, 0);
-        tell(rt, "end", sum)?;
-    }
+    assert!(rt; maps.holds(copy));
+    let sum = gets(maps, copy, 0);
+    tell(rt, "end", sum)?;
     Ok(())
 }
 
@@ -996,7 +985,8 @@ fn over(
 {
     let copy = maps.copy(kept)?;
     let both = inserts(maps, copy, COUNT)?;
-    tell(rt, "insert", maps.len(both))?;
+    tell(rt, "insert", 0)?;
+    tell(rt, "start", maps.len(both))?;
     let sum = gets(maps, both, COUNT);
     tell(rt, "get", sum)?;
     removes(maps, both, COUNT)
@@ -1051,75 +1041,17 @@ fn key(turn: u32) -> Num {
     Num(spread ^ (spread >> 15))
 }
 PROGRAM
-    add_measures usize
-    prove_versions maps inserts removes
-    prove_new_version phases alone 'c.empty.new.self c.in_ok-none.none'
-    prove_new_version over inserts 'c.copy.new.self c.in_ok-copy.copy'
+    prove_versions inserts removes
+    prove_made phases alone empty none
+    prove_made over inserts copy copy
+    add_edit "$1" inserted insert 'turn: u32' 'key(turn), turn'
+    add_edit "$1" removed remove 'turn: u32' '&key(turn)'
+    prove_and_build "maps_$1"
 }
 
-# prove_new_version FUNCTION CALL MADE: the proof that CALL of a function is given a version that was just MADE.
-prove_new_version() {
-    mkdir -p "$crate/proofs/$1"
-    local made=${3##* }
-    cat > "$crate/proofs/$1/Answers.antt" <<PROOF
-use Rattle.versions.proofs.CallerLemmas.{new-held}
-use Rattle.$program.proofs.$1.Goals as goal
-
-pub $2-requires : goal.$2-requires
-$2-requires g c = new-held c.args.maps.now $3 _ ${made%.*}.ensures.made
-PROOF
-}
-
-# The program over a store of maps.
-begin_program map_versions 'versions elem_core anyhow'
-add_versions 'each new version beside the old, which is then forgotten'
-cat >> "$crate/src/main.rt" <<PROGRAM
-
-fn inserted(maps: &mut Maps<Num, u32>, version: Version, turn: u32) -> Result<Version>
-${one_version//STORE/maps}
-{
-    let new = maps.insert(version, key(turn), turn)?;
-    maps.forget(version);
-    Ok(new)
-}
-
-fn removed(maps: &mut Maps<Num, u32>, version: Version, turn: u32) -> Result<Version>
-${one_version//STORE/maps}
-{
-    let new = maps.remove(version, &key(turn))?;
-    maps.forget(version);
-    Ok(new)
-}
-PROGRAM
-prove_turned inserted insert maps
-prove_turned removed remove maps
-
-prove_and_build map_versions
-runs+=("this repository, Maps|$crate/out/map_versions|")
-
-# The program over a store of maps, edited in place.
-begin_program maps_in_place 'versions elem_core anyhow'
-add_versions 'each edit of the version itself'
-cat >> "$crate/src/main.rt" <<PROGRAM
-
-fn inserted(maps: &mut Maps<Num, u32>, version: Version, turn: u32) -> Result<Version>
-${one_version//STORE/maps}
-{
-    maps.insert_here(version, key(turn), turn)?;
-    Ok(version)
-}
-
-fn removed(maps: &mut Maps<Num, u32>, version: Version, turn: u32) -> Result<Version>
-${one_version//STORE/maps}
-{
-    maps.remove_here(version, &key(turn))?;
-    Ok(version)
-}
-PROGRAM
-prove_here inserted insert_here maps
-prove_here removed remove_here maps
-
-prove_and_build maps_in_place
+add_versions beside
+runs+=("this repository, Maps|$crate/out/maps_beside|")
+add_versions in_place
 runs+=("this repository, Maps, in place|$crate/out/maps_in_place|")
 
 # The program over `im_rc::HashMap` and std's.
@@ -1258,19 +1190,23 @@ fn removes<M: Table>(mut all: M, from: u32) -> M {
 fn phases<M: Table>() {
     tell("start", 0);
     let all = inserts(M::empty(), 0);
-    tell("insert", all.count());
+    tell("insert", 0);
+    tell("start", all.count());
     let sum = gets(&all, 0);
     tell("get", sum);
     let left = removes(all, 0);
-    tell("remove", left.count());
+    tell("remove", 0);
+    tell("start", left.count());
     let copy = inserts(left, 0);
     tell("again", copy.count());
     let both = inserts(copy.copied(), COUNT);
-    tell("insert", both.count());
+    tell("insert", 0);
+    tell("start", both.count());
     let sum = gets(&both, COUNT);
     tell("get", sum);
     let left = removes(both, COUNT);
-    tell("remove", left.count());
+    tell("remove", 0);
+    tell("start", left.count());
     let sum = gets(&copy, 0);
     tell("end", sum);
     stay();
@@ -1301,11 +1237,12 @@ import sys
 from shared import ROUNDS, best_of_rounds, programs, tables
 
 count, runs = int(sys.argv[1]), programs(sys.argv[2:])
-# The phases that count, by their places among the lines that are told after the start.
+# The phases that count, by their places among all that are told. Behind an insertion or a removal keys are counted, by a walk that isn't
+# measured: its number comes with another `start`.
 phases = {"insert": 0, "get": 1, "remove": 2, "insert over": 4, "get over": 5, "remove over": 6}
-spans, peaks, told = best_of_rounds(runs, 9, "maps")
-# The copy is looked through at the end as the map alone was.
-if told[1 + phases["get"]] != told[-1]:
+spans, peaks, told = best_of_rounds(runs, 13, "maps")
+# The copy is looked through at the end as the map alone was, by the fourth line.
+if told[3] != told[-1]:
     sys.exit("the copy has changed")
 for kind, clock in enumerate(["wall", "processor"]):
     print(f"{count:,} of each over one map, and over a kept copy, best of {ROUNDS}, seconds of {clock}, and peak megabytes:")

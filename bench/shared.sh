@@ -32,17 +32,18 @@ begin_shell() {
     "$top/ewig" </dev/null >/dev/null
 }
 
-# take_crates NAME..: has these crates proved where they aren't yet, as `./ewig` has it done, and puts links to them where the
-# bench works. The last stands on all others.
+# take_crates NAME..: has these crates proved where they aren't yet, with all below, as `./ewig` has it done, and puts links to all
+# crates where the bench works.
 take_crates() {
     local name
-    "$top/tools/prove-program" "${!#}"
+    for name; do
+        "$top/tools/prove-program" "$name"
+    done
     mkdir -p "$work/crates" "$work/tools"
     cp "$top/tools/prove-program" "$work/tools"
-    : > "$work/crates.txt"
-    for name; do
-        ln -sfn "$top/crates/$name" "$work/crates/$name"
-        grep "^$name:" "$top/crates.txt" >> "$work/crates.txt"
+    cp "$top/crates.txt" "$work"
+    for name in "$top"/crates/*; do
+        ln -sfn "$name" "$work/crates/${name##*/}"
     done
 }
 
@@ -273,61 +274,6 @@ pub $call-requires-clause-good : goal.$call-requires-clause-good
 $call-requires-clause-good c =
     rw c.at.ensures (extended-good c.args.root c.cell-cell.ensures.extends (unchanged-good c.args.root c.in_ok-reserve.ensures.rest c.requires.good).0)
 PROOF
-}
-
-# The crates that stores of versions stand on, and their own.
-version_crates='elem_core node_heap rrb_core rrb_join edit_vec champ_chain champ_trie champ_kinds edit_trie same_value set_merge versions'
-
-# The contract of what makes one version of another. STORE stands for the name of the store.
-one_version='    requires { Holds STORE.old version }
-    ensures { IfOk result (λ v. Holds STORE.new v) }'
-
-# prove_turned FUNCTION CALL STORE: the proofs of a function whose CALL makes a version of `version`, which is then forgotten.
-prove_turned() {
-    mkdir -p "$crate/proofs/$1"
-    cat > "$crate/proofs/$1/Answers.antt" <<PROOF
-use Rattle.std.proofs.Common.{ap, sym, subst, ◌∙◌}
-use Rattle.std.specs.Prelude.{IsSome}
-use Rattle.std.specs.FinMap.{get}
-use Rattle.versions.proofs.CallerLemmas.{get-left, held-apart, made-held, new-held}
-use Rattle.$program.proofs.$1.Goals as goal
-
-pub forget-requires : goal.forget-requires
-forget-requires c = made-held c.args.$3.now c.$2.new.self c.in_ok-new.new _ c.args.version c.in_ok-new.ensures.made c.in_ok-new.ensures.fresh c.requires
-
-pub returns : goal.returns
-returns c =
-    subst IsSome (sym (ap (λ s. get s c.in_ok-new.new) c.forget.ensures ∙ get-left c.$2.new.self c.args.version c.in_ok-new.new (λ e. held-apart c.args.$3.now c.in_ok-new.new c.args.version c.in_ok-new.ensures.fresh c.requires (sym e))))
-    (new-held c.args.$3.now c.$2.new.self c.in_ok-new.new _ c.in_ok-new.ensures.made)
-PROOF
-}
-
-# prove_here FUNCTION CALL STORE: the proof of a function whose CALL edits the version itself.
-prove_here() {
-    mkdir -p "$crate/proofs/$1"
-    cat > "$crate/proofs/$1/Answers.antt" <<PROOF
-use Rattle.versions.proofs.CallerLemmas.{new-held}
-use Rattle.$program.proofs.$1.Goals as goal
-
-pub returns : goal.returns
-returns c = new-held c.args.$3.now c.$2.new.self c.args.version _ c.in_ok-$2.ensures.made
-PROOF
-}
-
-# prove_versions STORE FUNCTION..: the invariants of loops `'turns` that make one version after another.
-prove_versions() {
-    local function store=$1
-    shift
-    for function; do
-        mkdir -p "$crate/proofs/$function"
-        cat > "$crate/proofs/$function/Invariants.antt" <<PROOF
-use Rattle.versions.specs.Store.{Holds}
-use Rattle.$program.proofs.$function.Given as goal
-
-abbrev pub invariant-turns : goal.invariant-turns
-invariant-turns l = Holds l.$store l.version
-PROOF
-    done
 }
 
 # begin_rust NAME [DEPENDENCY]: begins the Rust program, whose feature `shared` stands for `im_rc`, or for another crate by

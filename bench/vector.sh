@@ -8,10 +8,11 @@
 # program outside the listed crates. Without cargo or `im_rc` it says so and runs the rest.
 set -eu
 . "$(dirname -- "$0")/shared.sh"
+. "$top/bench/stores.sh"
 begin "$@"
 
 # The program over this repository's vectors.
-take_crates $version_crates
+take_crates versions
 begin_program vector_rows 'rrb_core node_heap elem_core anyhow'
 cat > "$crate/src/main.rt" <<PROGRAM
 //! Pushes, random gets and random sets over one vector, each new vector beside the old, which is then given up.
@@ -295,39 +296,15 @@ done
 prove_and_build vector_in_place
 runs+=("this repository, in place|$crate/out/vector_in_place|")
 
-# add_lists WHAT: begins the program over a list of a store of versions, which WHAT says more of.
+# add_lists WAY: the program over a list of a store of versions.
 add_lists() {
-    cat > "$crate/src/main.rt" <<PROGRAM
-//! Pushes, random gets and random sets over one list of a store of versions, $1.
-#![tactic(auto)]
-
-ghost use Rattle.std.specs.Prelude.{◌<◌, ◌^◌, IfOk};
-ghost use Rattle.versions.specs.Store.{Holds};
-
-use anyhow::Result;
-use elem_core::Num;
-use std::io;
-use std::rt::Clock;
-use std::time::CpuClock;
-use versions::{Lists, Version};
-
-fn main(rt: HostRuntime) -> Result<()> {
-    let mut lists = Lists::new(rt.alloc());
-    run(&rt, &mut lists)
-}
-
-// It stays until its input ends, so that the peak of its memory can be read.
-fn run(rt: &HostRuntime, lists: &mut Lists<Num>) -> Result<()> {
-    phases(rt, lists)?;
-    let mut line = String::new(rt.alloc());
-    rt.read_line(&mut line)?;
-    Ok(())
-}
+    begin_store "lists_$1" lists 'Lists<Num>' u32 "Pushes, random gets and random sets over one list of a store of versions, by edits ${1/_/ }."
+    cat >> "$crate/src/main.rt" <<'PROGRAM'
 
 fn phases(rt: &(impl Print + Clock + CpuClock), lists: &mut Lists<Num>) -> Result<()> {
-    let empty = lists.empty()?;
+    let none = lists.empty()?;
     tell(rt, "start", 0)?;
-    let all = pushes(lists, empty)?;
+    let all = pushes(lists, none)?;
     tell(rt, "push", lists.len(all))?;
     let sum = gets(lists, all, 1);
     tell(rt, "get", sum)?;
@@ -383,69 +360,16 @@ fn number_at(lists: &Lists<Num>, version: Version, index: u32) -> u32
     }
 }
 PROGRAM
-    add_measures u32
-    prove_versions lists pushes sets
-    mkdir -p "$crate/proofs/phases"
-    cat > "$crate/proofs/phases/Answers.antt" <<PROOF
-use Rattle.std.proofs.Common.{[]}
-use Rattle.versions.proofs.CallerLemmas.{new-held}
-use Rattle.$program.proofs.phases.Goals as goal
-
-pub pushes-requires : goal.pushes-requires
-pushes-requires g c = new-held c.args.lists.now c.empty.new.self c.in_ok-empty.empty [] c.in_ok-empty.ensures.made
-PROOF
+    prove_versions pushes sets
+    prove_made phases pushes empty none
+    add_edit "$1" pushed push 'value: u32' 'Num(value)'
+    add_edit "$1" changed set 'index: u32, value: u32' 'index, Num(value)'
+    prove_and_build "lists_$1"
 }
 
-# The program over a store of lists.
-begin_program list_versions 'versions elem_core anyhow'
-add_lists 'each new version beside the old, which is then forgotten'
-cat >> "$crate/src/main.rt" <<PROGRAM
-
-fn pushed(lists: &mut Lists<Num>, version: Version, value: u32) -> Result<Version>
-${one_version//STORE/lists}
-{
-    let new = lists.push(version, Num(value))?;
-    lists.forget(version);
-    Ok(new)
-}
-
-fn changed(lists: &mut Lists<Num>, version: Version, index: u32, value: u32) -> Result<Version>
-${one_version//STORE/lists}
-{
-    let new = lists.set(version, index, Num(value))?;
-    lists.forget(version);
-    Ok(new)
-}
-PROGRAM
-prove_turned pushed push lists
-prove_turned changed set lists
-
-prove_and_build list_versions
-runs+=("this repository, Lists|$crate/out/list_versions|")
-
-# The program over a store of lists, edited in place.
-begin_program lists_in_place 'versions elem_core anyhow'
-add_lists 'each edit of the version itself'
-cat >> "$crate/src/main.rt" <<PROGRAM
-
-fn pushed(lists: &mut Lists<Num>, version: Version, value: u32) -> Result<Version>
-${one_version//STORE/lists}
-{
-    lists.push_here(version, Num(value))?;
-    Ok(version)
-}
-
-fn changed(lists: &mut Lists<Num>, version: Version, index: u32, value: u32) -> Result<Version>
-${one_version//STORE/lists}
-{
-    lists.set_here(version, index, Num(value))?;
-    Ok(version)
-}
-PROGRAM
-prove_here pushed push_here lists
-prove_here changed set_here lists
-
-prove_and_build lists_in_place
+add_lists beside
+runs+=("this repository, Lists|$crate/out/lists_beside|")
+add_lists in_place
 runs+=("this repository, Lists, in place|$crate/out/lists_in_place|")
 
 # The program over `im_rc::Vector` and `Vec`.
