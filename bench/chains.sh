@@ -7,7 +7,7 @@
 #   alone, and all of them. It should be at most 1.5 times that.
 # - the same space: `save`, `indent` and `dedent`. Each of the latter should take at most twice the time of a `save`.
 #   bench/chains.sh
-# COUNT in the environment takes the place of n, which is 10,000, WHOLE that of m, which is 75,000 (a document of 34 MB), and PROGRAM
+# COUNT in the environment takes the place of n, which is 10,000, WHOLE that of m, which is 75,000 (a document of 32 MB), and PROGRAM
 # that of the built program.
 set -eu
 . "$(dirname -- "$0")/shared.sh"

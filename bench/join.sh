@@ -39,34 +39,50 @@ const LENGTHS: u32 = $lengths;
 
 fn main(rt: HostRuntime) -> Result<()> {
     let mut heap: Heap<u32> = Heap::new(rt.alloc());
-    let empty = first(&mut heap)?;
-    let all = pushes(&mut heap, empty, COUNT)?;
-    tell(&rt, "start", FlexRef::at(all).len(&heap))?;
-    let sum = gets(&heap, all, 1);
-    tell(&rt, "get", sum)?;
-    let split = turns(&mut heap, all, Step::Split, 2)?;
-    tell(&rt, "split", FlexRef::at(split).len(&heap))?;
-    let rotated = turns(&mut heap, split, Step::Rotate, 3)?;
-    tell(&rt, "rotate", FlexRef::at(rotated).len(&heap))?;
-    let longer = turns(&mut heap, rotated, Step::Insert, 4)?;
-    tell(&rt, "insert", FlexRef::at(longer).len(&heap))?;
-    let shorter = turns(&mut heap, longer, Step::Erase, 5)?;
-    tell(&rt, "erase", FlexRef::at(shorter).len(&heap))?;
-    let sum = gets(&heap, shorter, 6);
-    tell(&rt, "again", sum)?;
+    steps(&rt, &mut heap)?;
     // It waits for a line, so that the peak of its memory can be read.
     let mut line = String::new(rt.alloc());
     rt.read_line(&mut line)?;
     let mut count = SHORTEST;
     for _length in 0..LENGTHS {
         let mut heap: Heap<u32> = Heap::new(rt.alloc());
-        let empty = first(&mut heap)?;
-        let all = pushes(&mut heap, empty, count)?;
-        tell(&rt, "start", 0)?;
-        let same = turns(&mut heap, all, Step::Join, 7)?;
-        tell(&rt, "join", FlexRef::at(same).len(&heap))?;
+        joins(&rt, &mut heap, count)?;
         count = count.wrapping_mul(4);
     }
+    Ok(())
+}
+
+// One vector through all steps but the last.
+fn steps(rt: &(impl Print + Clock + CpuClock), heap: &mut Heap<u32>) -> Result<()>
+    requires { hold_count heap.old ≡ 0 }
+{
+    let empty = first(heap)?;
+    let all = pushes(heap, empty, COUNT)?;
+    tell(rt, "start", FlexRef::at(all).len(heap))?;
+    let sum = gets(heap, all, 1);
+    tell(rt, "get", sum)?;
+    let split = turns(heap, all, Step::Split, 2)?;
+    tell(rt, "split", FlexRef::at(split).len(heap))?;
+    let rotated = turns(heap, split, Step::Rotate, 3)?;
+    tell(rt, "rotate", FlexRef::at(rotated).len(heap))?;
+    let longer = turns(heap, rotated, Step::Insert, 4)?;
+    tell(rt, "insert", FlexRef::at(longer).len(heap))?;
+    let shorter = turns(heap, longer, Step::Erase, 5)?;
+    tell(rt, "erase", FlexRef::at(shorter).len(heap))?;
+    let sum = gets(heap, shorter, 6);
+    tell(rt, "again", sum)?;
+    Ok(())
+}
+
+// A vector of so many elements, joined with itself.
+fn joins(rt: &(impl Print + Clock + CpuClock), heap: &mut Heap<u32>, count: u32) -> Result<()>
+    requires { hold_count heap.old ≡ 0 }
+{
+    let empty = first(heap)?;
+    let all = pushes(heap, empty, count)?;
+    tell(rt, "start", 0)?;
+    let same = turns(heap, all, Step::Join, 7)?;
+    tell(rt, "join", FlexRef::at(same).len(heap))?;
     Ok(())
 }
 

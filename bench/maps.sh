@@ -923,11 +923,10 @@ runs+=("this repository, in place|$crate/out/map_in_place|")
 # add_versions WAY: the program over a map of a store of versions.
 add_versions() {
     begin_store "maps_$1" maps 'Maps<Num, u32>' usize \
-        "Inserts, look-ups and removals over one map of a store of versions, and over one of which a copy is kept, by edits ${1/_/ }." \
-        std::process::Abort
+        "Inserts, look-ups and removals over one map of a store of versions, and over one of which a copy is kept, by edits ${1/_/ }."
     cat >> "$crate/src/main.rt" <<'PROGRAM'
 
-fn phases(rt: &(impl Abort + Print + Clock + CpuClock), maps: &mut Maps<Num, u32>) -> Result<()> {
+fn phases(rt: &(impl Print + Clock + CpuClock), maps: &mut Maps<Num, u32>) -> Result<()> {
     let none = maps.empty()?;
     let left = alone(rt, maps, none)?;
     beside(rt, maps, left)
@@ -956,7 +955,7 @@ fn alone(
 
 // The same over a copy of the map, which is kept to the end.
 fn beside(
-    rt: &(impl Abort + Print + Clock + CpuClock),
+    rt: &(impl Print + Clock + CpuClock),
     maps: &mut Maps<Num, u32>,
     none: Version,
 ) -> Result<()>
@@ -968,9 +967,10 @@ fn beside(
     tell(rt, "remove", 0)?;
     tell(rt, "start", maps.len(both))?;
     // That it is still held is asked for once, and not proved over all the turns.
-    assert!(rt; maps.holds(copy));
-    let sum = gets(maps, copy, 0);
-    tell(rt, "end", sum)?;
+    if maps.holds(copy) {
+        let sum = gets(maps, copy, 0);
+        tell(rt, "end", sum)?;
+    }
     Ok(())
 }
 

@@ -1,8 +1,8 @@
 # The programs over stores of versions, which vector.sh and maps.sh have in common. They source it behind shared.sh; by itself it
 # runs nothing.
 
-# begin_store NAME STORE TYPE SUM WHAT [USE]: begins the program over a store of this type, which it calls STORE and hands to `phases`.
-# SUM is the type of the numbers that it tells, WHAT says what it does, and USE is a name that it uses besides.
+# begin_store NAME STORE TYPE SUM WHAT: begins the program over a store of this type, which it calls STORE and hands to `phases`.
+# SUM is the type of the numbers that it tells, and WHAT says what it does.
 begin_store() {
     local library=${3%%<*}
     store=$2
@@ -17,8 +17,7 @@ ghost use Rattle.versions.specs.Store.{Holds};
 
 use anyhow::Result;
 use elem_core::Num;
-use std::io;${6:+
-use $6;}
+use std::io;
 use std::rt::Clock;
 use std::time::CpuClock;
 use versions::{$library, Version};
