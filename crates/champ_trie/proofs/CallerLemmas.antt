@@ -15,10 +15,11 @@ pub use Rattle.champ_trie.proofs.RowLemmas.{place-linked, row-less, row-with, sa
 pub use Rattle.champ_trie.proofs.PartLemmas.{below-part, count-filter, filter-turned, filter-within, others-distinct, others-elsewhere, part-alike, part-distinct, part-link, part-others, row-trie, stands-at}
 pub use Rattle.champ_trie.proofs.WithLemmas.{IsAlone, alone, below-chain, below-more, chain-trie, eq-apart, part-elsewhere, part-here, put-apart, put-distinct, put-two}
 pub use Rattle.champ_trie.proofs.LeftLemmas.{IsDeeper, canon-below, chain-place, deepest-alike, lone-gone, lone-place, more-left, node-chain, node-deeper, part-whole}
-pub use Rattle.champ_trie.proofs.ReachLemmas.{canon-empty, find-kept}
+-- what stands where a code leads, and what a look-up finds there
+pub use Rattle.champ_trie.proofs.ReachLemmas.{agreeing-none, alike-all, alike-none, alike-one, canon-empty, find-kept, link-empty, link-one, link-there, next-place, row-there, trie-chain}
 -- the walk, the rows below a row, and the one set of a trie
 pub use Rattle.champ_trie.proofs.WalkLemmas.{canon-fit, rows-all, trie-entries, trie-walk}
-pub use Rattle.champ_trie.proofs.BelowLemmas.{ChildAt, Stands, Under, among-passes, at-counted, chain-reach, child-at, child-link, child-stands, counted-at, link-child, once-fits, one-counted, one-digit, rows-reached, reached-rows, row_after, stands-deeper, stands-reach, stands-under, trie-stands, trie-under, under-entry, under-trans}
+pub use Rattle.champ_trie.proofs.BelowLemmas.{ChildAt, Stands, Under, among-passes, at-counted, chain-reach, child-at, child-link, child-stands, counted-at, link-child, once-fits, one-counted, one-digit, rows-reached, reached-rows, row_after, stands-deeper, stands-reach, stands-under, trie-opened, trie-stands, trie-under, under-entry, under-trans}
 pub use Rattle.champ_trie.proofs.GatherLemmas.{entries-gather, entry_links, gather, gather-same, node_links, nodes-gather, parts-whole, same-both, same-is, same-map, same-swap}
 pub use Rattle.champ_trie.proofs.CanonLemmas.{AreMatched, Match, follows-trees, has-one-set, names-keys, same-lift, same-sets, takes-any-order, trees-inside, trees-none, tries-match}
 pub use Rattle.champ_trie.proofs.SimilarLemmas.{similar-entries-tell}

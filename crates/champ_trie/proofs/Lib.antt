@@ -14,7 +14,6 @@ pub mod SimilarLemmas
 pub mod ShareLemmas
 pub mod BesideLemmas
 pub mod RowLemmas
-pub mod FillLemmas
 pub mod BelowLemmas
 mod TurnLemmas
 pub mod CallerLemmas

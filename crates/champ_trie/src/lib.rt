@@ -32,10 +32,9 @@ use edit::{place_without, with_at};
 use elem_core::{CODE_BITS, Code, Element, LEVELS, NoMemory, Probe, digit, masked};
 pub use laws::{depends_on_entries, rows_are_told_by_places, tries_stay};
 use node_heap::{Heap, Link};
-pub use place::{Place, cleared, contains, node_index, rank_of, with_position};
+pub use place::{Place, cleared, contains, node_index, place_among, rank_of, with_position};
 use reach::reached;
-use row::DraftRow;
-pub use row::{row_of_places, sets_of};
+pub use row::{DraftRow, sets_of};
 use std::cmp::Ordering;
 use turn::edited;
 pub use walk::Entries;
@@ -111,9 +110,9 @@ pub fn look_up<T: Element, P: Probe<T>>(heap: &Heap<T>, root: Link, key: &P, bit
     }
 }
 
-// What a look-up finds where one entry stands. Equal keys have equal codes, so the entry's is worked out only where they differ.
+/// What a look-up finds where one entry stands. Equal keys have equal codes, so the entry's is worked out only where they differ.
 #[inline]
-fn found_alone<T: Element, P: Probe<T>>(
+pub fn found_alone<T: Element, P: Probe<T>>(
     heap: &Heap<T>,
     entry: Link,
     key: &P,

@@ -61,9 +61,9 @@ pub fn node_index(entries: u32, nodes: u32, position: u32) -> usize
     (entries.count_ones() + rank_of(nodes, position)) as usize
 }
 
-// What stands at the position of a row with these sets and links.
+/// What stands at the position, below 32, of a row with these sets and links.
 #[inline(always)]
-pub(crate) fn place_among(entries: u32, nodes: u32, links: &[Link], position: u32) -> Place
+pub fn place_among(entries: u32, nodes: u32, links: &[Link], position: u32) -> Place
     requires sets { AreSets entries nodes links.now }
     requires position { position < 32 }
     ensures { result ≡ place_of entries nodes links.now position }

@@ -1,28 +1,30 @@
 //! Trie rows apart from the heap, and how they are made.
-ghost use Rattle.std.specs.Prelude.{◌≡◌, ◌≢◌, ℕ, ◌+◌, ◌<◌, ◌≤◌, List, [], ◌∷◌, length, Some, None, slice_index_or};
-ghost use Rattle.std.specs.List.{flat_map};
+ghost use Rattle.std.specs.Prelude.{◌≡◌, ◌≢◌, ℕ, ◌+◌, ◌<◌, ◌≤◌, List, [], ◌∷◌, length, Some, None};
 ghost use Rattle.node_heap.specs.Links.{count};
 ghost use Rattle.node_heap.specs.Forms.{node, trie};
 ghost use Rattle.node_heap.specs.Heap.{row_at, form_at, holds_at, hold_count, most_holds};
 ghost use Rattle.node_heap.specs.Calls.{AddsOwner, Makes, Builds};
 ghost use Rattle.node_heap.specs.declared.row.Head.TheVariants.{Trie};
-ghost use Rattle.champ_trie.specs.Trie.{AreSets, IsRow, IsRowOfPlaces, place_of, links_at_place};
-ghost use Rattle.champ_trie.specs.declared.place.Place.TheVariants.{Empty, Node};
+ghost use Rattle.champ_trie.specs.Trie.{AreSets, IsRow, place_of, links_at_place};
+ghost use Rattle.champ_trie.specs.declared.place.Place.TheVariants.{Empty};
 
 use crate::place::{Place, node_index, place_among, rank_of, with_position};
 use node_heap::{Head, Heap, Link, RowLinks};
 
-// The sets and links of a trie row.
+/// The sets and links of a trie row, apart from the heap.
 #[derive(Drop)]
-pub(crate) struct DraftRow {
-    pub(crate) entries: u32,
-    pub(crate) nodes: u32,
-    pub(crate) links: RowLinks,
+pub struct DraftRow {
+    /// The positions of its entries, as the bits of a number.
+    pub entries: u32,
+    /// The positions of its nodes.
+    pub nodes: u32,
+    /// The links of its entries and then those of its nodes, each by rising position.
+    pub links: RowLinks,
 }
 
 impl DraftRow {
-    // A row with nothing at any position.
-    pub(crate) fn empty() -> DraftRow
+    /// A row with nothing at any position.
+    pub fn empty() -> DraftRow
         ensures sets { AreSets result.entries result.nodes result.links }
         ensures none { result.links ≡ [] }
         ensures places { (p : ℕ) → place_of result.entries result.nodes result.links p ≡ Empty }
@@ -34,9 +36,9 @@ impl DraftRow {
         }
     }
 
-    // Puts something at a position where nothing stands.
+    /// Puts something at a position, below 32, where nothing stands.
     #[inline]
-    pub(crate) fn put(&mut self, position: u32, place: Place)
+    pub fn put(&mut self, position: u32, place: Place)
         requires sets { AreSets self.old.entries self.old.nodes self.old.links }
         requires position { position < 32 }
         requires free { place_of self.old.entries self.old.nodes self.old.links position ≡ Empty }
@@ -62,8 +64,9 @@ impl DraftRow {
         }
     }
 
-    // A row of the heap like this one. It spends a hold of each link.
-    pub(crate) fn make<T>(&self, heap: &mut Heap<T>, depth: u8) -> Link
+    /// A row of the heap like this one, at a depth, made of a spare. It spends a hold of each link. All holds together are below
+    /// 2^60 before.
+    pub fn make<T>(&self, heap: &mut Heap<T>, depth: u8) -> Link
         requires sets { AreSets self.now.entries self.now.nodes self.now.links }
         requires spare { 0 < heap.old.spare_nodes }
         requires held { (k : ℕ) → count k self.now.links ≤ holds_at heap.old k }
@@ -81,36 +84,6 @@ impl DraftRow {
         };
         heap.node(head, self.links.as_slice())
     }
-}
-
-// The row at whose positions stand these places in turn.
-fn filled(places: &[Place]) -> DraftRow
-    requires { length places.now ≡ 32 }
-    ensures sets { AreSets result.entries result.nodes result.links }
-    ensures places { (p : ℕ) → p < 32 → place_of result.entries result.nodes result.links p ≡ slice_index_or places.now p Empty }
-    ensures links { (k : ℕ) → count k result.links ≡ count k (flat_map links_at_place places.now) }
-    ensures number { length result.links ≡ length (flat_map links_at_place places.now) }
-{
-    let mut row = DraftRow::empty();
-    for position in 0..32 {
-        row.put(position, places[position as usize]);
-    }
-    row
-}
-
-/// A new trie row at a depth, made of a spare, at whose 32 positions stand these places in turn. It spends a hold of the link
-/// of each. All holds together are below 2^60 before.
-pub fn row_of_places<T>(heap: &mut Heap<T>, depth: u8, places: &[Place]) -> Link
-    requires all { length places.now ≡ 32 }
-    requires spare { 0 < heap.old.spare_nodes }
-    requires held { (k : ℕ) → count k (flat_map links_at_place places.now) ≤ holds_at heap.old k }
-    requires few { hold_count heap.old < most_holds }
-    ensures row { IsRowOfPlaces (form_at heap.new) result depth places.now }
-    ensures fresh { row_at heap.old result ≡ None }
-    ensures owners { AddsOwner heap.old heap.new result }
-    ensures builds { Builds heap.old heap.new (flat_map links_at_place places.now) (result ∷ []) 0 1 }
-{
-    filled(places).make(heap, depth)
 }
 
 /// The sets of the trie row at a link: the positions of its entries, and those of its nodes.

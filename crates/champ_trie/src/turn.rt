@@ -1,10 +1,9 @@
 //! Trie rows that are made of one other by what stands at one position.
 ghost use Rattle.std.specs.Prelude.{◌≡◌, ℕ, ◌+◌, ◌<◌, ◌≤◌, false, List, [], ◌∷◌, length, Some, None, IfSome, slice_index};
-ghost use Rattle.node_heap.specs.Links.{count};
+ghost use Rattle.node_heap.specs.Links.{count, without, with_link, came, changed_links};
 ghost use Rattle.node_heap.specs.Forms.{node, is_node};
 ghost use Rattle.node_heap.specs.Heap.{row_at, form_at, links_at, holds_at, hold_count, IsGraph, half_holds};
 ghost use Rattle.node_heap.specs.Calls.{Builds};
-ghost use Rattle.node_heap.specs.Pairs.{without, with_link, came, changed_links};
 ghost use Rattle.node_heap.specs.declared.row.Head.{Head};
 ghost use Rattle.node_heap.specs.declared.row.Head.TheVariants.{Trie};
 ghost use Rattle.champ_trie.specs.Bits.{has};
@@ -182,7 +181,7 @@ fn turned<T>(heap: &Heap<T>, link: Link, position: u32, place: Place) -> Turn
     cleared_at(row.entries, row.nodes, position).with_place(position, place)
 }
 
-// The row at a link with another place at the position, for which a hold of the place's link is spent. Both rows share their owners.
+// The row at a link with another place at the position, for which a hold of the place's link is spent.
 pub(crate) fn edited<T>(
     heap: &mut Heap<T>,
     link: Link,

@@ -1,10 +1,10 @@
 -- Links for all holds, as random turns make, write and free rows.
-use Rattle.std.proofs.Common.{◌≡◌, ◌≢◌, ℕ, ◌+◌, ◌<◌, List, [], ◌∷◌, ◌++◌, length, get_or, set, take, drop, cond, eqb, ap, sym, subst, ◌∙◌, arith, None, IsSome, inl, inr}
-use Rattle.std.specs.Prelude.{remove}
+use Rattle.std.proofs.Common.{◌≡◌, ◌≢◌, ℕ, ◌+◌, ◌-◌, ◌<◌, List, [], ◌∷◌, ◌++◌, length, get_or, set, take, drop, cond, eqb, ap, sym, subst, ◌∙◌, arith, None, IsSome, inl, inr}
+use Rattle.std.specs.Prelude.{remove, Result, Ok, Err, IsOk, OnOk}
 use Rattle.std.proofs.lemmas.Bool.{cases_eq}
 use Rattle.std.specs.List.{refill}
-use Rattle.std.proofs.Math.Seq.{take-append_seam}
-use Rattle.std.proofs.lemmas.List.{length-append, length-set, get_or_read}
+use Rattle.std.proofs.Math.Seq.{take-append_seam, drop-append_seam}
+use Rattle.std.proofs.lemmas.List.{length-append, length-set, get_or_read, take_rest}
 use Rattle.std.proofs.lemmas.List.Edits.{length-remove}
 use Rattle.std.proofs.lemmas.List.Sums.{sum_by-set, sum_by-remove}
 use Rattle.node_heap.specs.Links.{count, Reaches}
@@ -25,6 +25,17 @@ refilled held items long = subst (λ n. take n (items ++ drop (length items) hel
 
 set-back : (held now : List ℕ) (at x : ℕ) → now ≡ held → refill (length held) held (set now at x) ≡ set held at x
 set-back held now at x lent = refilled held (set now at x) (length-set now at x ∙ ap length lent) ∙ ap (λ ks. set ks at x) lent
+
+-- what was appended to a list is the part behind its old length
+on-ok : {A E P : Type 0} (r : Result A E) → IsOk r → OnOk r P → P
+on-ok (Ok x) ok p = p
+on-ok (Err e) ok p = absurd cc
+
+pub appended : {A E : Type 0} (r : Result A E) (items held more ks : List ℕ) → IsOk r → OnOk r (items ≡ held ++ more) → more ≡ ks → items ≡ held ++ ks
+appended r items held more ks ok are same = on-ok r ok are ∙ ap (λ (xs : List ℕ). held ++ xs) same
+
+pub part-behind : (items held more ls : List ℕ) (start : ℕ) → ls ≡ items → items ≡ held ++ more → start ≡ length held → take (length ls - start) (drop start ls) ≡ more
+part-behind items held more ls start same all at = take_rest ls start ∙ rw (same, all, at) (drop-append_seam held more)
 
 module _ {T : Type 0} where
   -- what is held has a row
@@ -48,6 +59,14 @@ module _ {T : Type 0} where
     graph = graph;
     each = λ k. omega (arith, are.each k, holds k, ap (count k) is, count-last k x held);
     total = omega (arith, are.total, total, ap length is, length-append held (x ∷ []));
+  }
+
+  -- the links of a list come
+  pub held-all : {old new : Heap T} {held items : List ℕ} (more : List ℕ) → IsGraph new → ((k : ℕ) → holds_at new k ≡ holds_at old k + count k more) → hold_count new ≡ hold_count old + length more → items ≡ held ++ more → AreHeld old held → AreHeld new items
+  held-all {held = held} more graph holds total is are = record {
+    graph = graph;
+    each = λ k. omega (arith, are.each k, holds k, ap (count k) is, count-append k held more);
+    total = omega (arith, are.total, total, ap length is, length-append held more);
   }
 
   -- all that was held stands in a row

@@ -1,11 +1,12 @@
 //! Rows, holds and heads of one heap.
-ghost use Rattle.std.specs.Prelude.{◌<◌, ◌≤◌, [], ◌∷◌, IfOk, OnErr, IsOk};
+ghost use Rattle.std.specs.Prelude.{◌≡◌, ◌<◌, ◌≤◌, [], ◌∷◌, IfOk, OnErr, IsOk};
 ghost use Rattle.node_heap.specs.Forms.{leaf, tree_cell, tree_node, trees_of, IsTree};
 ghost use Rattle.node_heap.specs.Heap.{form_at, hold_count, half_holds};
 ghost use Rattle.node_heap.specs.Calls.{Answered, Unchanged};
 
 use elem_core::{NoMemory, Num};
 use node_heap::{Head, Heap, Kind, Link, Sums};
+use std::process::Abort;
 use std::test::Fail;
 
 // A leaf of two cells, which stands for a while in a pair with a third.
@@ -30,32 +31,38 @@ fn leaf_again<T: Drop>(heap: &mut Heap<T>, first: T, second: T, third: T) -> Res
 }
 
 // Two cells, and a leaf in which the first stands twice.
-#[test]
-fn releases_a_leaf_with_its_cells(rt: HostRuntime) -> Result<(), Fail> {
-    let mut heap: Heap<Num> = Heap::new(rt.alloc());
+fn check_releases_a_leaf_with_its_cells(rt: &impl Abort, heap: &mut Heap<Num>) -> Result<(), Fail>
+    requires { hold_count heap.old ≡ 0 }
+{
     heap.reserve(2, 1)?;
     let first = heap.cell(Num(7));
     let second = heap.cell(Num(8));
     heap.hold(first);
     let leaf = heap.node(Head::Leaf, &[first, first, second]);
-    assert_eq!(rt; heap.owners(first), 2);
-    assert_eq!(rt; heap.live(), 3);
-    assert_eq!(rt; heap.made(), 3);
-    assert_eq!(rt; heap.value(first), Some(&Num(7)));
-    assert_eq!(rt; heap.links(leaf), [first, first, second].as_slice());
+    assert!(rt; heap.owners(first) == 2);
+    assert!(rt; heap.live() == 3);
+    assert!(rt; heap.made() == 3);
+    assert!(rt; heap.value(first) == Some(&Num(7)));
+    assert!(rt; heap.links(leaf) == [first, first, second].as_slice());
     heap.release(leaf);
-    assert_eq!(rt; heap.live(), 0);
-    assert_eq!(rt; heap.made(), 3);
+    assert!(rt; heap.live() == 0);
+    assert!(rt; heap.made() == 3);
     let again = heap.cell(Num(9));
     let pair = heap.node(Head::Pair, &[again]);
-    assert_eq!(rt; heap.owners(pair), 1);
-    assert_eq!(rt; heap.made(), 5);
+    assert!(rt; heap.owners(pair) == 1);
+    assert!(rt; heap.made() == 5);
     Ok(())
 }
 
 #[test]
-fn reads_heads(rt: HostRuntime) -> Result<(), Fail> {
-    let mut heap: Heap<u32> = Heap::new(rt.alloc());
+fn releases_a_leaf_with_its_cells(rt: HostRuntime) -> Result<(), Fail> {
+    let mut heap: Heap<Num> = Heap::new(rt.alloc());
+    check_releases_a_leaf_with_its_cells(&rt, &mut heap)
+}
+
+fn check_reads_heads(rt: &impl Abort, heap: &mut Heap<u32>) -> Result<(), Fail>
+    requires { hold_count heap.old ≡ 0 }
+{
     heap.reserve(1, 1)?;
     let cell = heap.cell(7);
     let sums = Sums::from_slice(&[16, 17]);
@@ -73,19 +80,31 @@ fn reads_heads(rt: HostRuntime) -> Result<(), Fail> {
 }
 
 #[test]
-fn keeps_a_leaf(rt: HostRuntime) -> Result<(), Fail> {
+fn reads_heads(rt: HostRuntime) -> Result<(), Fail> {
     let mut heap: Heap<u32> = Heap::new(rt.alloc());
-    let leaf = leaf_again(&mut heap, 1, 2, 3)?;
-    assert_eq!(rt; heap.live(), 3);
-    assert_eq!(rt; heap.made(), 5);
-    assert_eq!(rt; heap.owners(leaf), 1);
+    check_reads_heads(&rt, &mut heap)
+}
+
+fn check_keeps_a_leaf(rt: &impl Abort, heap: &mut Heap<u32>) -> Result<(), Fail>
+    requires { hold_count heap.old ≡ 0 }
+{
+    let leaf = leaf_again(heap, 1, 2, 3)?;
+    assert!(rt; heap.live() == 3);
+    assert!(rt; heap.made() == 5);
+    assert!(rt; heap.owners(leaf) == 1);
     Ok(())
 }
 
-// A row of a trie that outgrows its slot, and is given other heads.
 #[test]
-fn outgrows_a_twig(rt: HostRuntime) -> Result<(), Fail> {
-    let mut heap: Heap<Num> = Heap::new(rt.alloc());
+fn keeps_a_leaf(rt: HostRuntime) -> Result<(), Fail> {
+    let mut heap: Heap<u32> = Heap::new(rt.alloc());
+    check_keeps_a_leaf(&rt, &mut heap)
+}
+
+// A row of a trie that outgrows its slot, and is given other heads.
+fn check_outgrows_a_twig(rt: &impl Abort, heap: &mut Heap<Num>) -> Result<(), Fail>
+    requires { hold_count heap.old ≡ 0 }
+{
     heap.reserve(2, 1)?;
     let first = heap.cell(Num(7));
     let second = heap.cell(Num(8));
@@ -104,8 +123,8 @@ fn outgrows_a_twig(rt: HostRuntime) -> Result<(), Fail> {
     );
     let sums = Sums::from_slice(&[4, 9]);
     heap.set_head(row, Head::Inner { height: 2, sums });
-    assert_eq!(rt; heap.sums(row), [4, 9].as_slice());
-    assert_eq!(rt; heap.kind(row), Some(Kind::Inner { height: 2 }));
+    assert!(rt; heap.sums(row) == [4, 9].as_slice());
+    assert!(rt; heap.kind(row) == Some(Kind::Inner { height: 2 }));
     let head = Head::Trie {
         depth: 4,
         entries: 5,
@@ -114,21 +133,27 @@ fn outgrows_a_twig(rt: HostRuntime) -> Result<(), Fail> {
     heap.set_head(row, head);
     assert_eq!(rt; heap.trie(row).nodes, 6);
     heap.release(row);
-    assert_eq!(rt; heap.live(), 0);
+    assert!(rt; heap.live() == 0);
     Ok(())
 }
 
-// A pair that is given the head of a row of a trie, and a third link.
 #[test]
-fn outgrows_a_pair(rt: HostRuntime) -> Result<(), Fail> {
+fn outgrows_a_twig(rt: HostRuntime) -> Result<(), Fail> {
     let mut heap: Heap<Num> = Heap::new(rt.alloc());
+    check_outgrows_a_twig(&rt, &mut heap)
+}
+
+// A pair that is given the head of a row of a trie, and a third link.
+fn check_outgrows_a_pair(rt: &impl Abort, heap: &mut Heap<Num>) -> Result<(), Fail>
+    requires { hold_count heap.old ≡ 0 }
+{
     heap.reserve(2, 1)?;
     let first = heap.cell(Num(7));
     let second = heap.cell(Num(8));
     heap.hold(first);
     let pair = heap.node(Head::Pair, &[first, first]);
     heap.insert_link(pair, 1, second);
-    assert_eq!(rt; heap.kind(pair), Some(Kind::Pair));
+    assert!(rt; heap.kind(pair) == Some(Kind::Pair));
     let head = Head::Trie {
         depth: 1,
         entries: 3,
@@ -136,10 +161,16 @@ fn outgrows_a_pair(rt: HostRuntime) -> Result<(), Fail> {
     };
     heap.set_head(pair, head);
     assert_eq!(rt; heap.trie(pair).nodes, 4);
-    assert_eq!(rt; heap.links(pair), [first, second, first].as_slice());
+    assert!(rt; heap.links(pair) == [first, second, first].as_slice());
     heap.set_head(pair, Head::Chain);
-    assert_eq!(rt; heap.kind(pair), Some(Kind::Chain));
+    assert!(rt; heap.kind(pair) == Some(Kind::Chain));
     heap.release(pair);
-    assert_eq!(rt; heap.live(), 0);
+    assert!(rt; heap.live() == 0);
     Ok(())
+}
+
+#[test]
+fn outgrows_a_pair(rt: HostRuntime) -> Result<(), Fail> {
+    let mut heap: Heap<Num> = Heap::new(rt.alloc());
+    check_outgrows_a_pair(&rt, &mut heap)
 }

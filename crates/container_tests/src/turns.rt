@@ -1,9 +1,9 @@
-//! Random turns of the calls that make, write and free rows of a heap. After each turn the owners of all rows are counted again.
-ghost use Rattle.std.specs.Prelude.{◌≡◌, ℕ, ◌+◌, ◌<◌, ◌≤◌, ◌∷◌, IsSome, OnOk, IfOk};
+//! Random turns of the calls that make, hold, write and free rows of a heap. After each turn the owners of all rows are counted again.
+ghost use Rattle.std.specs.Prelude.{◌≡◌, ℕ, ◌+◌, ◌<◌, ◌≤◌, ◌∷◌, length, IsSome, OnOk, IfOk};
 ghost use Rattle.arrayvec.specs.ArrayVec.{array_vec_len};
 ghost use Rattle.node_heap.specs.Links.{count};
 ghost use Rattle.node_heap.specs.Forms.{is_node};
-ghost use Rattle.node_heap.specs.Heap.{row_at, owners_at, IsGraph};
+ghost use Rattle.node_heap.specs.Heap.{row_at, links_at, owners_at, IsGraph};
 ghost use Rattle.container_tests.specs.Turns.{AreHeld};
 
 use arrayvec::ArrayVec;
@@ -15,7 +15,9 @@ use std::test::Fail;
 // So many holds there are at most between turns.
 const KEPT: usize = 20;
 
-const TURNS: usize = 300;
+// In so many turns more pairs of rows come than are kept at a time, and a row that stores one owner is written below a row of a pair:
+// once where that is all of its owners, and once where it has another.
+const TURNS: usize = 1000;
 
 // Numbers by xorshift.
 #[derive(Drop)]
@@ -50,11 +52,12 @@ impl Dice {
     }
 }
 
-// A heap, and a link for each hold.
+// A heap, a link for each hold, and the number of rows that were made.
 #[derive(Drop)]
 struct Turns {
     heap: Heap<Num>,
     held: ArrayVec<Link, 32>,
+    made: u64,
     dice: Dice,
 }
 
@@ -79,6 +82,7 @@ impl Turns {
         self.heap.reserve(1, 0)?;
         let number = self.dice.roll(100) as u32;
         let cell = self.heap.cell(Num(number));
+        self.made = self.made.saturating_add(1);
         self.held.push(cell);
         Ok(())
     }
@@ -87,11 +91,11 @@ impl Turns {
     fn gather(&mut self) -> Result<(), NoMemory>
         requires held { AreHeld self.old.heap self.old.held.items }
         ensures held { OnOk result (AreHeld self.new.heap self.new.held.items) }
-        ensures few { array_vec_len self.new.held ≤ array_vec_len self.old.held + 1 }
     {
         self.heap.reserve(0, 1)?;
         let head = self.dice.head();
         let node = self.heap.node(head, self.held.as_slice());
+        self.made = self.made.saturating_add(1);
         self.held.clear();
         self.held.push(node);
         Ok(())
@@ -103,7 +107,6 @@ impl Turns {
         requires some { 0 < array_vec_len self.old.held }
         requires few { array_vec_len self.old.held < 32 }
         ensures held { AreHeld self.new.heap self.new.held.items }
-        ensures few { array_vec_len self.new.held ≤ array_vec_len self.old.held + 1 }
     {
         let row = self.any();
         let links = self.heap.links(row);
@@ -115,13 +118,38 @@ impl Turns {
         self.held.push(child);
     }
 
+    // A hold of each row that stands in one that is held, where there is room for them.
+    fn hold_all_below(&mut self)
+        requires held { AreHeld self.old.heap self.old.held.items }
+        requires some { 0 < array_vec_len self.old.held }
+        ensures held { AreHeld self.new.heap self.new.held.items }
+    {
+        let row = self.any();
+        if self.held.len() + self.heap.links(row).len() > 32 {
+            return;
+        }
+        self.hold_links_of(row);
+    }
+
+    // A hold of each link of the row.
+    fn hold_links_of(&mut self, row: Link)
+        requires held { AreHeld self.old.heap self.old.held.items }
+        requires live { IsSome (row_at self.old.heap row) }
+        requires room { array_vec_len self.old.held + length (links_at self.old.heap row) ≤ 32 }
+        ensures held { AreHeld self.new.heap self.new.held.items }
+    {
+        let before = self.held.len();
+        // There is room for 32, so that this refuses nothing.
+        let _ = self.held.try_extend_from_slice(self.heap.links(row));
+        self.heap.hold_all(&self.held.as_slice()[before..]);
+    }
+
     // A row that is made of a held one by one change. Another held one comes in, or a link goes out.
     fn change(&mut self) -> Result<(), NoMemory>
         requires held { AreHeld self.old.heap self.old.held.items }
         requires some { 0 < array_vec_len self.old.held }
         requires few { array_vec_len self.old.held < 32 }
         ensures held { OnOk result (AreHeld self.new.heap self.new.held.items) }
-        ensures few { array_vec_len self.new.held ≤ array_vec_len self.old.held + 1 }
     {
         let row = self.any();
         let len = self.heap.links(row).len();
@@ -129,6 +157,7 @@ impl Turns {
             return Ok(());
         }
         self.heap.reserve(0, 1)?;
+        self.made = self.made.saturating_add(1);
         let head = self.dice.head();
         let index = self.dice.roll(len);
         let way = self.dice.roll(4);
@@ -156,7 +185,6 @@ impl Turns {
         requires some { 0 < array_vec_len self.old.held }
         requires few { array_vec_len self.old.held < 32 }
         ensures held { OnOk result (AreHeld self.new.heap self.new.held.items) }
-        ensures few { array_vec_len self.new.held ≤ array_vec_len self.old.held + 1 }
     {
         let at = self.dice.roll(self.held.len());
         let link = self.held[at];
@@ -165,14 +193,16 @@ impl Turns {
         }
         self.heap.reserve(1, 2)?;
         let row = self.heap.own(link);
+        self.made = self.made.saturating_add(u64::from(row != link));
         self.held[at] = row;
         let len = self.heap.links(row).len();
         if len > 0 {
             let index = self.dice.roll(len);
             let child = self.heap.links(row)[index];
             if self.heap.head(child).is_some() {
-                let child = self.heap.own_child(row, index);
-                self.write_own(child);
+                let own = self.heap.own_child(row, index);
+                self.made = self.made.saturating_add(u64::from(own != child));
+                self.write_own(own);
                 return Ok(());
             }
         }
@@ -188,7 +218,6 @@ impl Turns {
         requires node { is_node (row_at self.old.heap row) ≡ 1 }
         requires spare { 0 < self.old.heap.spare_cells }
         ensures held { AreHeld self.new.heap self.new.held.items }
-        ensures few { array_vec_len self.new.held ≤ array_vec_len self.old.held + 1 }
     {
         let len = self.heap.links(row).len();
         if len == 0 || len == 32 {
@@ -204,6 +233,7 @@ impl Turns {
             return;
         }
         let cell = self.heap.cell(Num(7));
+        self.made = self.made.saturating_add(1);
         if way == 1 {
             let old = self.heap.replace(row, index, cell);
             self.held.push(old);
@@ -227,20 +257,23 @@ impl Turns {
         requires held { AreHeld self.old.heap self.old.held.items }
         requires few { array_vec_len self.old.held < 32 }
         ensures held { OnOk result (AreHeld self.new.heap self.new.held.items) }
-        ensures few { array_vec_len self.new.held ≤ array_vec_len self.old.held + 1 }
     {
         if self.held.is_empty() {
             return self.make_cell();
         }
         match self.dice.roll(24) {
-            0 | 1 | 2 | 3 => self.make_cell(),
-            4 => self.gather(),
-            5 | 6 | 7 | 8 => {
+            0 | 1 | 2 => self.make_cell(),
+            3 => self.gather(),
+            4 | 5 => {
                 self.hold_below();
                 Ok(())
             }
-            9 | 10 | 11 | 12 | 13 => self.write(),
-            14 | 15 | 16 => {
+            6 => {
+                self.hold_all_below();
+                Ok(())
+            }
+            7 | 8 | 9 | 10 | 11 => self.write(),
+            12 | 13 => {
                 self.give_up();
                 Ok(())
             }
@@ -308,18 +341,21 @@ fn rows_from(heap: &Heap<Num>, roots: &[Link], alloc: Global) -> Result<Counted,
     Ok(all)
 }
 
-// Whether the owners of all rows are what the rows and the holds say, and no row is left that none leads to.
+// Whether the owners of all rows are what the rows and the holds say, no row is left that none leads to, and the heap tells how many
+// were made and which rows have one owner.
 fn is_right(turns: &Turns, alloc: Global) -> Result<bool, NoMemory>
     requires { AreHeld turns.now.heap turns.now.held.items }
 {
     turns.heap.rows_form_a_graph();
     let all = rows_from(&turns.heap, turns.held.as_slice(), alloc)?;
-    if all.rows.len() != turns.heap.live() {
+    if all.rows.len() != turns.heap.live() || turns.heap.made() != turns.made {
         return Ok(false);
     }
     for at in 0..all.rows.len() {
-        let owners = turns.heap.owners(all.rows[at]);
-        if all.owners.get(at) != Some(&owners) {
+        let row = all.rows[at];
+        let owners = turns.heap.owners(row);
+        let alone = turns.heap.has_one_owner(row);
+        if all.owners.get(at) != Some(&owners) || alone != (owners == 1) {
             return Ok(false);
         }
     }
@@ -331,8 +367,9 @@ fn owners_are_counted_at_each_turn(rt: HostRuntime) -> Result<(), Fail> {
     let mut turns = Turns {
         heap: Heap::new(rt.alloc()),
         held: ArrayVec::new(),
+        made: 0,
         dice: Dice {
-            state: 1181783497276652981,
+            state: 5213019028570671171,
         },
     };
     for _ in 0..TURNS {

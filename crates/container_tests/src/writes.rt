@@ -13,6 +13,7 @@ use node_heap::{
     unfolds_to_one_tree,
 };
 use std::marker::Brand;
+use std::process::Abort;
 use std::sync::ledger::{Blank, Ledger};
 use std::test::Fail;
 
@@ -53,23 +54,29 @@ fn value_below<T>(heap: &Heap<T>, link: Link, levels: u32) -> Option<&T>
     value_below(heap, *first, levels - 1)
 }
 
-#[test]
-fn writes_below_a_kept_version(rt: HostRuntime) -> Result<(), Fail> {
-    let mut heap: Heap<Num> = Heap::new(rt.alloc());
+fn check_writes_below_a_kept_version(rt: &impl Abort, heap: &mut Heap<Num>) -> Result<(), Fail>
+    requires { hold_count heap.old ≡ 0 }
+{
     heap.reserve(2, 6)?;
     let seven = heap.cell(Num(7));
     let leaf = heap.node(Head::Leaf, &[seven]);
     let pair = heap.node(Head::Pair, &[leaf]);
     let root = heap.node(Head::State, &[pair]);
     heap.hold(root);
-    let (top, old) = write_third(&mut heap, root, Num(8));
+    let (top, old) = write_third(heap, root, Num(8));
     assert!(rt; top != root);
     assert!(rt; old == seven);
-    assert_eq!(rt; heap.live(), 8);
-    assert_eq!(rt; value_below(&heap, root, 3), Some(&Num(7)));
-    assert_eq!(rt; value_below(&heap, top, 3), Some(&Num(8)));
-    assert_eq!(rt; heap.made(), 8);
+    assert!(rt; heap.live() == 8);
+    assert_eq!(rt; value_below(heap, root, 3), Some(&Num(7)));
+    assert_eq!(rt; value_below(heap, top, 3), Some(&Num(8)));
+    assert!(rt; heap.made() == 8);
     Ok(())
+}
+
+#[test]
+fn writes_below_a_kept_version(rt: HostRuntime) -> Result<(), Fail> {
+    let mut heap: Heap<Num> = Heap::new(rt.alloc());
+    check_writes_below_a_kept_version(&rt, &mut heap)
 }
 
 #[test]
@@ -89,17 +96,23 @@ fn inserts_and_removes_links(rt: HostRuntime) -> Result<(), Fail> {
     Ok(())
 }
 
-#[test]
-fn puts_a_head_in_place_of_another(rt: HostRuntime) -> Result<(), Fail> {
-    let mut heap: Heap<Num> = Heap::new(rt.alloc());
+fn check_puts_a_head_in_place_of_another(rt: &impl Abort, heap: &mut Heap<Num>) -> Result<(), Fail>
+    requires { hold_count heap.old ≡ 0 }
+{
     heap.reserve(1, 1)?;
     let cell = heap.cell(Num(7));
     let row = heap.node(Head::Leaf, &[cell]);
     heap.set_head(row, Head::Chain);
     assert!(rt; matches!(heap.head(row), Some(Head::Chain)));
-    assert_eq!(rt; heap.links(row), [cell].as_slice());
-    assert_eq!(rt; heap.made(), 2);
+    assert!(rt; heap.links(row) == [cell].as_slice());
+    assert!(rt; heap.made() == 2);
     Ok(())
+}
+
+#[test]
+fn puts_a_head_in_place_of_another(rt: HostRuntime) -> Result<(), Fail> {
+    let mut heap: Heap<Num> = Heap::new(rt.alloc());
+    check_puts_a_head_in_place_of_another(&rt, &mut heap)
 }
 
 // The value of a row's first link, in two counted reads.
@@ -127,14 +140,20 @@ fn is_seven<L: Ledger>(heap: &Heap<Num>, link: Link, blank: Blank) -> bool
 }
 
 // That two steps are counted is a clause of the function that reads.
-#[test]
-fn reads_through_a_glass(rt: HostRuntime) -> Result<(), Fail> {
-    let mut heap: Heap<Num> = Heap::new(rt.alloc());
+fn check_reads_through_a_glass(rt: &impl Abort, heap: &mut Heap<Num>) -> Result<(), Fail>
+    requires { hold_count heap.old ≡ 0 }
+{
     heap.reserve(1, 1)?;
     let seven = heap.cell(Num(7));
     let leaf = heap.node(Head::Leaf, &[seven]);
-    assert!(rt; is_seven::<Brand>(&heap, leaf, Blank::new(1)));
+    assert!(rt; is_seven::<Brand>(heap, leaf, Blank::new(1)));
     Ok(())
+}
+
+#[test]
+fn reads_through_a_glass(rt: HostRuntime) -> Result<(), Fail> {
+    let mut heap: Heap<Num> = Heap::new(rt.alloc());
+    check_reads_through_a_glass(&rt, &mut heap)
 }
 
 // The laws hold of all heaps: what is called here does nothing.

@@ -15,7 +15,8 @@ use Rattle.node_heap.specs.declared.row.Head.TheVariants.{Pair}
 use Rattle.node_heap.specs.Heap.{Heap, row_at, form_at, links_at, holds_at, owners_at, one_at}
 use Rattle.node_heap.specs.Calls.{Adds, AddsOwner, Builds, Makes, Gains}
 use Rattle.node_heap.specs.InPlace.{Changes, child_at, Writes, ReachesAround, at_once, by_link}
-use Rattle.node_heap.specs.Owner.{by_hold, written, alone, WritesOnly, KeepsAlone}
+use Rattle.node_heap.specs.declared.owner.Owner.TheVariants.{Hold as by_hold}
+use Rattle.node_heap.specs.Owner.{written, alone, WritesOnly, KeepsAlone}
 use Rattle.node_heap.proofs.CallerLemmas.{test_other, count-link as count-cons, count-one, Builds-both, Extends-row, Reaches-back, Changes-then, Changes-more, owned-live, new-reach, Changes-Builds, Gains-trans, Gains-Builds, KeepsBelow-apart, Changes-beside, Changes-path, paths-off, Gains-Changes}
 use Rattle.champ_chain.specs.Entry.{Entry, entry, IsEntry, key_at, key_of, link_with, others, put, first_value}
 use Rattle.champ_chain.proofs.CallerLemmas.{forms-kept, key-live, links-form}
@@ -30,7 +31,7 @@ use Rattle.champ_kinds.specs.Edit.{PutsPair}
 use Rattle.champ_kinds.proofs.CallerLemmas.{absent-map, absent-pairs, link-none, others-none, pairs-kept, others-same}
 use Rattle.edit_trie.specs.Path.{edit_rows, pair_rows, way_rows, KeepsShared, MakesFew}
 use Rattle.edit_trie.specs.Edit.{by_bits}
-use Rattle.edit_trie.specs.Walk.{CanEditBelow, PutsIn, HasPair, OwnsIn}
+use Rattle.edit_trie.specs.Walk.{CanEditBelow, PutsEntryIn, HasPair, OwnsIn}
 use Rattle.edit_trie.specs.Bound.{CanBind, Binds}
 use Rattle.edit_trie.specs.Way.{IsSoleWay}
 use Rattle.edit_trie.proofs.DownLemmas.{way-stays}
@@ -122,7 +123,7 @@ module _ {T : Type 0} (cmp : T → T → Ordering) (code : T → ℕ) (o : IsTot
   pub spare-put : ADD_NODES + alike_in (code_by code bits) c E ≤ old.spare_nodes → LEVELS + alike_in (code_by code bits) c E ≤ mid.spare_nodes
   spare-put room = omega (arith, room, builds.makes.spare_nodes, builds.few_nodes)
 
-  module _ (new : Heap T) (did : PutsIn cmp (code_by code bits) mid new DEEPEST 0 r c E key y) where
+  module _ (new : Heap T) (did : PutsEntryIn cmp (code_by code bits) mid new DEEPEST 0 r c E key y) where
     canon-new : IsCanon cmp (code_by code bits) (form_at new) r (put cmp E (entry key y))
     canon-new = record { trie = did.trie; distinct = put-distinct cmp (code_by code bits) o E (entry key y) canon-mid.distinct }
 

@@ -17,7 +17,7 @@ use Rattle.node_heap.specs.Calls.{KeepsBelow, KeepsOwners, AddsOwner, Makes, Bui
 use Rattle.node_heap.specs.InPlace.{child_at, Writes, Changes}
 use Rattle.node_heap.specs.Owner.{written, KeepsAlone}
 use Rattle.node_heap.specs.declared.row.Head.TheVariants.{Chain}
-use Rattle.node_heap.proofs.CallerLemmas.{insert-removed, linked-node, count-at, above_live, KeepsBelow-apart, Reaches-back, Changes-both, Changes-then, Changes-more, test_other, count-link as count-cons, count-one, IsGraph-acyclic, KeepsBelow-trans, Extends-row, paths-off, owned-live, new-reach, Changes-Builds, Gains-trans, Gains-Builds, Gains-Changes, KeepsAlone-none, SameBelow-link, Reaches-by, IsSolePath-Reaches, Changes-hold, Reaches-live}
+use Rattle.node_heap.proofs.CallerLemmas.{insert-removed, linked-node, count-at, above_live, KeepsBelow-apart, Reaches-back, Changes-both, Changes-then, Changes-more, test_other, count-link as count-cons, count-one, IsGraph-acyclic, KeepsBelow-trans, Extends-row, paths-off, owned-live, new-reach, Changes-Builds, Gains-trans, Gains-Builds, Gains-Changes, KeepsAlone-none, SameBelow-link, Reaches-by, IsSolePath-Reaches, Changes-hold, Reaches-live, child-linked}
 use Rattle.champ_chain.specs.Entry.{Entry, entry, key_at, has_key, others, SameSet}
 use Rattle.champ_chain.specs.Chain.{IsChain, AreChainRows, AreAbove}
 use Rattle.champ_chain.specs.KeySpot.{Parts}
@@ -27,7 +27,7 @@ use Rattle.edit_trie.specs.Path.{chain_rows, next_in, MakesCopies}
 use Rattle.edit_trie.specs.Walk.{EditsChild}
 use Rattle.edit_trie.specs.Chains.{IsFront, OwnsRows, PutsInChain, link_in, CutsFromChain, WritesBelow}
 use Rattle.edit_trie.proofs.RowLemmas.{row-form, node-form, node-head, keys-stay}
-use Rattle.edit_trie.proofs.ChildLemmas.{child-linked, unspent-one}
+use Rattle.edit_trie.proofs.ChildLemmas.{unspent-one}
 use Rattle.edit_trie.proofs.PathLemmas.{chain-row, order-row}
 use Rattle.edit_trie.proofs.ChainLemmas.{front-rows, front-rest, front-path, child-more, written-child, written-front}
 

@@ -12,7 +12,7 @@ use Rattle.node_heap.specs.Forms.{Forms, node, chain, links_in, links_of, head_o
 use Rattle.node_heap.specs.Heap.{Heap, row_at, form_at, links_at, owners_at, IsGraph}
 use Rattle.node_heap.specs.InPlace.{child_at, OwnsDown, path_start, path_then, Changes}
 use Rattle.node_heap.specs.Owner.{written, alone}
-use Rattle.node_heap.proofs.CallerLemmas.{test_same, test_other, count-link as count-cons, SameBelow-link, Reaches-by, IsGraph-acyclic, IsSolePath-Reaches, KeepsBelow-trans, linked_live, KeepsPaths-owned, Changes-more, Changes-path, Changes-Unchanged, Gains-trans, KeepsAlone-cons, KeepsAlone-own, alone-yes, written-own, alone-own, Reaches-live}
+use Rattle.node_heap.proofs.CallerLemmas.{test_same, test_other, count-link as count-cons, SameBelow-link, Reaches-by, IsGraph-acyclic, IsSolePath-Reaches, KeepsBelow-trans, linked_live, KeepsPaths-owned, Changes-more, Changes-path, Changes-Unchanged, Gains-trans, KeepsAlone-cons, KeepsAlone-own, alone-yes, written-own, alone-own, Reaches-live, OwnsChild, child-linked, own-there, own-linked, own-beneath, gains-child}
 use Rattle.champ_chain.specs.Entry.{Entry, IsEntry, key_at, key_of}
 use Rattle.champ_chain.specs.Chain.{AreChainRows, AreBelow}
 use Rattle.champ_chain.proofs.CallerLemmas.{first-row, row-next, links-form, rows-none}
@@ -22,7 +22,7 @@ use Rattle.edit_trie.specs.Chains.{IsFront, IsPast, OwnsRows, link_in}
 use Rattle.edit_trie.specs.Walk.{EditsChild}
 use Rattle.edit_trie.proofs.PathLemmas.{chain-row, order-row, next-row}
 use Rattle.edit_trie.proofs.RowLemmas.{row-form, keys-stay}
-use Rattle.edit_trie.proofs.ChildLemmas.{OwnsChild, child-linked, own-there, own-linked, own-beneath, gains-child, child-then}
+use Rattle.edit_trie.proofs.ChildLemmas.{child-then}
 use Rattle.edit_trie.proofs.StepLemmas.{none-live, off-first}
 
 -- what is counted in a list with another first element

@@ -1,137 +1,37 @@
 -- Changes at a child of a row with one owner add up.
-use Rattle.std.proofs.Common.{◌≡◌, ◌≢◌, ℕ, ◌+◌, ◌*◌, ◌<◌, List, [], ◌∷◌, length, get_or, set, refl, ap, sym, subst, ◌∙◌, arith, IsSome, None, inl, inr}
-use Rattle.std.specs.Prelude.{◌↔◌}
-use Rattle.std.proofs.lemmas.Bool.{cases_eq}
-use Rattle.std.proofs.lemmas.List.{get_or-set_same, get_or-set_other, length-set}
-use Rattle.node_heap.specs.Links.{Links, count, HasLink, Reaches, here}
+use Rattle.std.proofs.Common.{◌≡◌, ◌≢◌, ℕ, ◌+◌, ◌<◌, List, [], ◌∷◌, length, get_or, set, refl, ap, sym, subst, ◌∙◌, arith, None}
+use Rattle.std.proofs.lemmas.List.{get_or-set_other, length-set}
+use Rattle.node_heap.specs.Links.{Links, count, HasLink, Reaches}
 use Rattle.node_heap.specs.Forms.{links_of, head_of}
-use Rattle.node_heap.specs.Heap.{Heap, row_at, links_at, holds_at, owners_at, one_at, IsGraph}
-use Rattle.node_heap.specs.Calls.{KeepsBelow, Makes, Gains}
-use Rattle.node_heap.specs.InPlace.{child_at, other_at, IsSolePath, path_start, path_then, OwnsDown, Changes}
-use Rattle.node_heap.proofs.CallerLemmas.{count-cons, test_other, le-sum_by, IsGraph-acyclic, Reaches-avoids, Reaches-last, KeepsBelow-trans, count-at, linked_live, IsOwners-heap, KeepsBelow-sibling, KeepsBelow-apart, Reaches-back, Changes-path, Changes-beside, Gains-Changes, count-two, Reaches-live}
+use Rattle.node_heap.specs.Heap.{Heap, row_at, links_at, holds_at, owners_at, IsGraph}
+use Rattle.node_heap.specs.Calls.{KeepsBelow}
+use Rattle.node_heap.specs.InPlace.{child_at, IsSolePath, path_start, path_then, Changes}
+use Rattle.node_heap.proofs.CallerLemmas.{count-cons, test_other, le-sum_by, KeepsBelow-trans, linked_live, KeepsBelow-sibling, Changes-path, Changes-beside, count-two, OwnsChild, child-linked, own-below, own-there, parent-same}
 use Rattle.edit_trie.specs.Walk.{EditsChild}
-
--- a path with one owner a row, from a row further up
-pub sole-before : (O : ℕ → ℕ) (L : Links) (p k x : ℕ) → HasLink L p k → O k ≡ 1 → IsSolePath O L k x → IsSolePath O L p x
-sole-before O L p k x has one path_start = path_then p k path_start has one
-sole-before O L p k x has one (path_then l m path step sole) = path_then l m (sole-before O L p k l has one path) step sole
 
 -- the last row of a path of rows with one owner has one, if the first has
 pub sole-last : (O : ℕ → ℕ) (L : Links) (a b : ℕ) → IsSolePath O L a b → O a ≡ 1 → O b ≡ 1
 sole-last O L a b path_start one = one
 sole-last O L a b (path_then l k path has sole) one = sole
 
--- the only link of a list
-pub only-one : (u l : ℕ) → 0 < count u (l ∷ []) → u ≡ l
-only-one u l some = elim (cases_eq u l) as (λ _. u ≡ l) [
-  | inl same ↦ same
-  | inr other ↦ absurd (omega (arith, some, count-cons u l [], test_other u l other))
-]
-
 module _ {T : Type 0} where
-  -- the child at an index is a link of the row
-  pub child-linked : (h : Heap T) (parent index : ℕ) → index < length (links_at h parent) → HasLink (links_at h) parent (child_at h parent index)
-  child-linked h parent index inside = count-at (links_at h parent) index (child_at h parent index) inside refl
-
   -- a child with one owner stands at one index
   pub child-once : (h : Heap T) (parent i j k : ℕ) → owners_at h k ≡ 1 → i < length (links_at h parent) → j < length (links_at h parent) → child_at h parent i ≡ k → child_at h parent j ≡ k → i ≢ j → ⊥
   child-once h parent i j k one in_i in_j at_i at_j other =
       omega (arith, one, count-two (links_at h parent) i j k other in_i in_j at_i at_j, le-sum_by (λ r. count k (links_of r)) None refl h.rows parent)
 
-  -- a link that is held and doesn't reach a row doesn't reach a child of it that has one owner
-  pub apart-child : (h : Heap T) (row k l : ℕ) → HasLink (links_at h) row k → owners_at h k ≡ 1 → 0 < holds_at h l → ¬ Reaches (links_at h) l row → ¬ Reaches (links_at h) l k
-  apart-child h row k l linked one held off way = elim (Reaches-last (links_at h) l k way) as (λ _. ⊥) [
-    | inl same ↦ absurd (omega (arith, ap (holds_at h) same, (IsOwners-heap h).unheld row k linked one, held))
-    | inr last ↦ off (subst (Reaches (links_at h) l) ((IsOwners-heap h).only row last.0 k linked last.2 one) last.1)
-  ]
-
   -- where a held link doesn't reach a row, none that reaches the row is that one
   pub unspent-one : (h : Heap T) (row l : ℕ) → ¬ Reaches (links_at h) l row → (u : ℕ) → Reaches (links_at h) u row → count u (l ∷ []) ≡ 0
   unspent-one h row l off u up = omega (arith, count-cons u l [], test_other u l (λ same. off (subst (λ x. Reaches (links_at h) x row) same up)))
 
-  -- the child at an index was made the row's own, as `own_child` says
-  pub record OwnsChild (old new : Heap T) (parent index copy : ℕ) : Type 0 where
-    pub inside : index < length (links_at old parent)
-    pub same : (copy ≡ child_at old parent index) ↔ (owners_at old (child_at old parent index) ≡ 1)
-    pub row : row_at new copy ≡ row_at old (child_at old parent index)
-    pub sole : owners_at new copy ≡ 1
-    pub fresh : copy ≢ child_at old parent index → row_at old copy ≡ None
-    pub head : head_of (row_at new parent) ≡ head_of (row_at old parent)
-    pub links : links_at new parent ≡ set (links_at old parent) index copy
-    pub stays : (k : ℕ) → k ≢ parent → IsSome (row_at old k) → row_at new k ≡ row_at old k
-    pub others : (k : ℕ) → k ≢ parent → k ≢ copy → row_at new k ≡ row_at old k
-    pub owners : (k : ℕ) → owners_at new k + one_at (child_at old parent index) k ≡ owners_at old k + (one_at copy k + other_at (child_at old parent index) copy * count k (links_at old (child_at old parent index)))
-    pub changes : Changes parent old new [] [] 0 1
-    pub makes : Makes old new 0 (other_at (child_at old parent index) copy)
-
-  -- from the clauses of `own_child`
-  pub owns-child : {old new : Heap T} {parent index copy : ℕ} → index < length (links_at old parent) → (copy ≡ child_at old parent index) ↔ (owners_at old (child_at old parent index) ≡ 1) → row_at new copy ≡ row_at old (child_at old parent index) → owners_at new copy ≡ 1
-      → (copy ≢ child_at old parent index → row_at old copy ≡ None) → head_of (row_at new parent) ≡ head_of (row_at old parent) → links_at new parent ≡ set (links_at old parent) index copy → ((k : ℕ) → k ≢ parent → IsSome (row_at old k) → row_at new k ≡ row_at old k)
-      → ((k : ℕ) → k ≢ parent → k ≢ copy → row_at new k ≡ row_at old k) → ((k : ℕ) → owners_at new k + one_at (child_at old parent index) k ≡ owners_at old k + (one_at copy k + other_at (child_at old parent index) copy * count k (links_at old (child_at old parent index))))
-      → Changes parent old new [] [] 0 1 → Makes old new 0 (other_at (child_at old parent index) copy) → OwnsChild old new parent index copy
-  owns-child inside same row sole fresh head links stays others owners changes makes = record {
-    inside = inside;
-    same = same;
-    row = row;
-    sole = sole;
-    fresh = fresh;
-    head = head;
-    links = links;
-    stays = stays;
-    others = others;
-    owners = owners;
-    changes = changes;
-    makes = makes;
-  }
-
-  module _ (old new : Heap T) (parent index copy : ℕ) where
-    pub own-there : OwnsChild old new parent index copy → child_at new parent index ≡ copy
-    own-there own = ap (λ ks. get_or ks index 0) own.links ∙ get_or-set_same (links_at old parent) index copy 0 own.inside
-
-    pub own-linked : OwnsChild old new parent index copy → HasLink (links_at new) parent copy
-    own-linked own = subst (HasLink (links_at new) parent) (own-there own) (child-linked new parent index (omega (arith, own.inside, ap length own.links, length-set (links_at old parent) index copy)))
-
-    -- the child itself has one owner
-    pub owned-child : OwnsChild old new parent index copy → OwnsDown new parent copy
-    owned-child own = path_then parent copy path_start (own-linked own) own.sole
-
-    -- no row went
-    pub gains-child : OwnsChild old new parent index copy → Gains old new
-    gains-child own = Gains-Changes own.changes own.stays own.makes
-
   module _ (old new : Heap T) (parent index copy : ℕ) (graph : IsGraph old) (own : OwnsChild old new parent index copy) where
-    -- each row that was there is the same, but for the parent
-    pub own-row : (k : ℕ) → IsSome (row_at old k) → k ≢ parent → row_at new k ≡ row_at old k
-    own-row k live other = own.stays k other live
-
-    -- what a child reaches is there, and it isn't the parent
-    own-below : (s m : ℕ) → HasLink (links_at old) parent s → Reaches (links_at old) s m → row_at new m ≡ row_at old m
-    own-below s m has way = own-row m (Reaches-live old graph s m way (graph.closed parent s has)) (λ same. IsGraph-acyclic old graph parent s has (subst (Reaches (links_at old) s) same way))
-
-    pub own-beneath : KeepsBelow old new (child_at old parent index)
-    own-beneath m way = own-below (child_at old parent index) m (child-linked old parent index own.inside) way
-
     pub own-child : EditsChild parent index old new [] [] 0 1
     own-child = record {
       changes = own.changes;
       head = own.head;
       links = own.links ∙ ap (set (links_at old parent) index) (sym (own-there old new parent index copy own));
-      beside = λ i within other m way. own-below (child_at old parent i) m (child-linked old parent i within) way;
+      beside = λ i within other m way. own-below old new parent index copy graph own (child_at old parent i) m (child-linked old parent i within) way;
     }
-
-    -- a held link that doesn't reach the parent doesn't then, and is held still
-    pub own-held : (l : ℕ) → 0 < holds_at old l → 0 < holds_at new l
-    own-held l held = omega (arith, held, own.changes.trades.holds l)
-
-    pub own-apart : (l : ℕ) → 0 < holds_at old l → ¬ Reaches (links_at old) l parent → ¬ Reaches (links_at new) l parent
-    own-apart l held off way = off (Reaches-back old new l parent (KeepsBelow-apart own.changes.apart l (omega (arith, held)) off) way)
-
-  -- a change at a child with one owner leaves the row above it
-  pub parent-same : (mid new : Heap T) (parent k : ℕ) (spent gained : List ℕ) (c n : ℕ) → IsGraph mid → HasLink (links_at mid) parent k → Changes k mid new spent gained c n
-      → ((u : ℕ) → Reaches (links_at mid) u parent → count u spent ≡ 0) → row_at new parent ≡ row_at mid parent
-  parent-same mid new parent k spent gained c n graph linked second unspent =
-      let from = graph.reached parent (linked_live (row_at mid parent) k linked) in
-      second.apart.kept from.0 parent (omega (arith, from.1, unspent from.0 from.2)) (Reaches-avoids (links_at mid) k from.0 parent from.2 (IsGraph-acyclic mid graph parent k linked))
 
   -- a change at a child, and then one at the child that stands there, which has one owner
   pub child-then : (old mid new : Heap T) (parent index k : ℕ) (spent gained : List ℕ) (c n c' n' : ℕ) → IsGraph mid → index < length (links_at old parent)
@@ -173,13 +73,3 @@ module _ {T : Type 0} where
       (unspent : (u : ℕ) → Reaches (links_at mid) u row → count u spent ≡ 0) where
     pub own-then : EditsChild row i old new spent gained (0 + a) (1 + b)
     own-then = child-then old mid new row i k spent gained 0 1 a b own.changes.trades.graph own.inside (own-child old mid row i k graph own) (own-there old mid row i k own) own.sole second unspent
-
-    same_row : row_at new row ≡ row_at mid row
-    same_row = parent-same mid new row k spent gained a b own.changes.trades.graph (own-linked old mid row i k own) second unspent
-
-    pub own-child-there : child_at new row i ≡ k
-    own-child-there = ap (λ r. get_or (links_of r) i 0) same_row ∙ own-there old mid row i k own
-
-    pub own-down : (r : ℕ) → OwnsDown new k r → OwnsDown new row r
-    own-down r path =
-        sole-before (owners_at new) (links_at new) row k r (omega (arith, own-linked old mid row i k own, ap (λ x. count k (links_of x)) same_row)) (second.paths.soles k (here k) own.sole) path

@@ -13,16 +13,16 @@ use Rattle.node_heap.specs.Forms.{links_of, form_of}
 use Rattle.node_heap.specs.Heap.{Heap, row_at, links_at, holds_at, owners_at, one_at, IsGraph}
 use Rattle.node_heap.specs.Calls.{KeepsBelow, Makes}
 use Rattle.node_heap.specs.InPlace.{child_at, other_at}
-use Rattle.node_heap.specs.Owner.{Owner, owned}
-use Rattle.node_heap.proofs.CallerLemmas.{IsOwned, Makes-refl, Reaches-then}
+use Rattle.node_heap.specs.declared.owner.Owner.{Owner}
+use Rattle.node_heap.specs.Owner.{owned}
+use Rattle.node_heap.proofs.CallerLemmas.{IsOwned, Makes-refl, Reaches-then, OwnsChild, owns-child, child-linked}
 use Rattle.champ_chain.specs.Entry.{Entry, link_with}
 use Rattle.champ_trie.specs.Trie.{part, code_by}
 use Rattle.champ_trie.specs.Reach.{alike_in}
 use Rattle.champ_trie.proofs.CallerLemmas.{part-alike}
 use Rattle.edit_trie.specs.Way.{StepsTo, IsSoleWay}
-use Rattle.edit_trie.specs.declared.way.Way.{Way}
-use Rattle.edit_trie.specs.Walk.{CanEditBelow, HasPair, OwnsIn, PutsIn}
-use Rattle.edit_trie.proofs.ChildLemmas.{OwnsChild, owns-child, child-linked}
+use Rattle.edit_trie.specs.declared.way.Reached.{Reached}
+use Rattle.edit_trie.specs.Walk.{CanEditBelow, HasPair, OwnsIn, PutsEntryIn}
 use Rattle.edit_trie.proofs.RootLemmas.{changes-none}
 use Rattle.edit_trie.proofs.StepLemmas.{AtRow, at-row, part-link, OwnsNext, owns-next, can-below}
 use Rattle.edit_trie.proofs.EditLemmas.{pair-below, owns-node, apart-below, puts-node}
@@ -77,14 +77,14 @@ unfolding IsSoleWay
 way-none h root c n row is none = subst (λ m. IsSoleWay h root c m row) (sym none) (sym is)
 
 -- an edit begins at the row down the way where each above it has one owner, and else at the root
-pub way-begun : {T : Type 0} {owner : Owner} {old mid : Heap T} {r first : ℕ} {way from : Way} (c : ℕ) → IsOwned owner old mid r → first ≡ owned old owner → (way.sole ≡ true → (owners_at old first ≡ 1) × IsSoleWay old first c way.depth way.row)
+pub way-begun : {T : Type 0} {owner : Owner} {old mid : Heap T} {r first : ℕ} {way from : Reached} (c : ℕ) → IsOwned owner old mid r → first ≡ owned old owner → (way.sole ≡ true → (owners_at old first ≡ 1) × IsSoleWay old first c way.depth way.row)
     → (way.sole ≡ true → from ≡ way) → (way.sole ≡ false → (from.row ≡ r) × (from.depth ≡ 0)) → IsSoleWay mid r c from.depth from.row
 way-begun {owner = owner} {old = old} {mid = mid} {r = r} {first = first} {way = way} {from = from} c own is was same top = elim (cases_Bool way.sole) as (λ _. IsSoleWay mid r c from.depth from.row) [
   | inl sole ↦
       let there = was sole in
       let one : owners_at old (owned old owner) ≡ 1 = subst (λ l. owners_at old l ≡ 1) is there.0 in
       let path : IsSoleWay old (owned old owner) c way.depth way.row = subst (λ l. IsSoleWay old l c way.depth way.row) is there.1 in
-      subst (λ (w : Way). IsSoleWay mid r c w.depth w.row) (sym (same sole)) (way-owned own c way.depth way.row one path)
+      subst (λ (w : Reached). IsSoleWay mid r c w.depth w.row) (sym (same sole)) (way-owned own c way.depth way.row one path)
   | inr shared ↦ way-none mid r c from.depth from.row (top shared).0 (top shared).1
 ]
 
@@ -99,7 +99,7 @@ pub record Lifts {T : Type 0} (cmp : T → T → Ordering) (code : T → ℕ) (h
   pub pair : (x : Entry T) → HasPair cmp h E key x → HasPair cmp h entries key x
   pub apart : (l : ℕ) → 0 < holds_at h l → ¬ Reaches (links_at h) l root → ¬ Reaches (links_at h) l row
   pub owns : (x : Entry T) → HasPair cmp h E key x → (new : Heap T) (r : ℕ) → OwnsIn cmp code h new left depth row c entries key x r → OwnsIn cmp code h new DEEPEST 0 root c E key x r
-  pub puts : (l : ℕ) → 0 < holds_at h l → ¬ Reaches (links_at h) l root → (new : Heap T) → PutsIn cmp code h new left depth row c entries key l → PutsIn cmp code h new DEEPEST 0 root c E key l
+  pub puts : (l : ℕ) → 0 < holds_at h l → ¬ Reaches (links_at h) l root → (new : Heap T) → PutsEntryIn cmp code h new left depth row c entries key l → PutsEntryIn cmp code h new DEEPEST 0 root c E key l
 
 module _ {T : Type 0} {cmp : T → T → Ordering} {code_of : T → ℕ} (o : IsTotalOrder cmp) (equal : (j k : T) → cmp j k ≡ Equal → code_of j ≡ code_of k) (bits : ℕ) {h : Heap T} {root c : ℕ} {E : List (Entry T)} (key : T) (is_code : c ≡ code_by code_of bits key)
     (can : CanEditBelow cmp (code_by code_of bits) h DEEPEST 0 root c E) where

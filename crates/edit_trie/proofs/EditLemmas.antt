@@ -16,7 +16,7 @@ use Rattle.node_heap.specs.InPlace.{child_at, Changes}
 use Rattle.node_heap.specs.Owner.{KeepsAlone, alone}
 use Rattle.node_heap.specs.Links.{count, Reaches, here, below}
 use Rattle.node_heap.specs.Calls.{Gains, SameRows}
-use Rattle.node_heap.proofs.CallerLemmas.{Changes-more, Gains-trans, KeepsAlone-none, KeepsAlone-cons, KeepsAlone-own, alone-yes, alone-own, Reaches-by, Reaches-trans, IsGraph-acyclic}
+use Rattle.node_heap.proofs.CallerLemmas.{Changes-more, Gains-trans, KeepsAlone-none, KeepsAlone-cons, KeepsAlone-own, alone-yes, alone-own, Reaches-by, Reaches-trans, IsGraph-acyclic, OwnsChild, own-there, owned-child, gains-child, own-down, own-linked, own-held, own-apart, apart-child}
 use Rattle.champ_chain.specs.Entry.{Entry, entry, has_key, IsEntry, put, link_with, others}
 use Rattle.champ_chain.specs.Chain.{IsChain}
 use Rattle.champ_chain.proofs.CallerLemmas.{same-length, links-form}
@@ -28,12 +28,12 @@ use Rattle.champ_trie.specs.Edit.{IsBelow}
 use Rattle.champ_kinds.proofs.CallerLemmas.{others-none, link-none}
 use Rattle.edit_trie.specs.Path.{chain_rows, pair_rows, own_entry, row_and_entry, MakesCopies, edit_rows, way_rows, MakesFew}
 use Rattle.edit_trie.specs.Spot.{IsSpot, PutsAt}
-use Rattle.edit_trie.specs.Walk.{EditsChild, HasPair, OwnsIn, PutsIn, CutsIn, MakesShared}
+use Rattle.edit_trie.specs.Walk.{EditsChild, HasPair, OwnsIn, PutsEntryIn, CutsIn, MakesShared}
 use Rattle.edit_trie.specs.Chains.{OwnsInChain, PutsInChain, CutsFromChain}
 use Rattle.edit_trie.specs.declared.row.Spot.TheVariants.{Entry as EntryAt, Empty as NoneAt, Node as NodeAt}
 use Rattle.edit_trie.proofs.StepLemmas.{copies-cons, copies-own, shared-same, shared-one, shared-cons, shared-last, made-last, made-cons, AtRow, find-only, find-has, put-only, part-short, part-find, stands, not-none, at-entry, entry-row, entry-stays, trie-with, entry-puts, entry-beside, node-puts, node-beside, digit, part-link, at-none, elsewhere, place-is, at-node, trie-less, MeetsChain, OwnsNext, path-was, path-now, off-row, apart-owned, chain-was, chain-now, down-off, down-edits, down-trie, down-keeps, down-copies, tail, down-was, down-mid, down-next, down-now, down-shared, down-made}
 use Rattle.edit_trie.proofs.RowLemmas.{key-moved, cells-kept, row-keyless, not-row, row-links}
-use Rattle.edit_trie.proofs.ChildLemmas.{OwnsChild, own-child, own-there, owned-child, gains-child, own-down, own-linked, own-held, own-apart, apart-child, unspent-one}
+use Rattle.edit_trie.proofs.ChildLemmas.{own-child, unspent-one}
 use Rattle.edit_trie.proofs.PathLemmas.{pair-paths, order-entry, edit-paths, rows_below, rows-first}
 use Rattle.edit_trie.proofs.WayLemmas.{on-length, way-paths}
 use Rattle.edit_trie.proofs.LoneLemmas.{all-below}
@@ -215,7 +215,7 @@ module _ {T : Type 0} {cmp : T → T → Ordering} {code : T → ℕ} {old : Hea
             change.trades.nodes,
           )
 
-      pub puts-none : PutsIn cmp code old new left d row c E key l
+      pub puts-none : PutsEntryIn cmp code old new left d row c E key l
       puts-none = record {
         trie = trie-with a new (At l) puts (elsewhere a new (λ k other live. others k other)) (entry key l) (digit a)
             (key, ap (λ es. put cmp es (entry key l)) (stands a Empty (at-none a spot)), entry-stays a new (λ k other live. others k other) (entry key l) keyed);
@@ -259,7 +259,7 @@ module _ {T : Type 0} {cmp : T → T → Ordering} {code : T → ℕ} {old : Hea
             alone-yes old row (put-chained old most) a.can.sole,
           )
 
-      pub puts-chain : PutsIn cmp code old new left d row c E key l
+      pub puts-chain : PutsEntryIn cmp code old new left d row c E key l
       puts-chain = record {
         trie = trie-with a new (Node (child_at new row i)) (node-puts a new i did.child s.spot) (node-beside a new i did.child s.spot) (entry key l) (digit a) (
           put-two cmp code P (entry key l) (part-distinct cmp code d (digit_at c d) E a.can.below.distinct) s.chain.two,
@@ -288,7 +288,7 @@ module _ {T : Type 0} {cmp : T → T → Ordering} {code : T → ℕ} {old : Hea
       pub apart-below : ¬ Reaches (links_at mid) l k
       apart-below = apart-child mid row k l (own-linked old mid row i k s.own) s.own.sole held-below off-mid
 
-      module _ (new : Heap T) (did : PutsIn cmp code mid new s.deeper.m (d + 1) k c P key l) where
+      module _ (new : Heap T) (did : PutsEntryIn cmp code mid new s.deeper.m (d + 1) k c P key l) where
         unspent : (u : ℕ) → Reaches (links_at mid) u row → count u (l ∷ []) ≡ 0
         unspent = unspent-one mid row l off-mid
 
@@ -314,7 +314,7 @@ module _ {T : Type 0} {cmp : T → T → Ordering} {code : T → ℕ} {old : Hea
               ap length (down-now a s new did.changes unspent q more),
             )
 
-        pub puts-node : PutsIn cmp code old new left d row c E key l
+        pub puts-node : PutsEntryIn cmp code old new left d row c E key l
         puts-node = record {
           trie = trie-with a new (Node (child_at new row i)) (node-puts a new i put-edited s.spot) (node-beside a new i put-edited s.spot) (entry key l) (digit a)
               (put-two cmp code P (entry key l) s.deeper.below.distinct s.deeper.two, down-trie a s new did.changes unspent (put cmp P (entry key l)) did.trie);

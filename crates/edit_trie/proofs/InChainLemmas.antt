@@ -14,7 +14,7 @@ use Rattle.node_heap.specs.Heap.{Heap, row_at, form_at, links_at, IsGraph}
 use Rattle.node_heap.specs.Calls.{KeepsBelow}
 use Rattle.node_heap.specs.InPlace.{child_at, path_then}
 use Rattle.node_heap.specs.Owner.{written, alone}
-use Rattle.node_heap.proofs.CallerLemmas.{KeepsPaths-owned, Changes-path, count-link as count-cons, count-append, KeepsBelow-trans, Gains-trans, KeepsAlone-none, KeepsAlone-cons, KeepsAlone-own, alone-yes, alone-own}
+use Rattle.node_heap.proofs.CallerLemmas.{KeepsPaths-owned, Changes-path, count-link as count-cons, count-append, KeepsBelow-trans, Gains-trans, KeepsAlone-none, KeepsAlone-cons, KeepsAlone-own, alone-yes, alone-own, OwnsChild, child-linked, own-linked, gains-child}
 use Rattle.champ_chain.specs.Entry.{Entry, entry, IsEntry, has_key, key_at, put}
 use Rattle.champ_chain.specs.Chain.{IsChain, AreChainRows}
 use Rattle.champ_chain.specs.KeySpot.{Parts}
@@ -25,7 +25,7 @@ use Rattle.edit_trie.specs.Walk.{EditsChild, HasPair}
 use Rattle.edit_trie.specs.Chains.{IsFront, IsPast, OwnsRows, OwnsInChain, link_in}
 use Rattle.edit_trie.proofs.RowLemmas.{key-moved, row-form, cells-kept, keys-stay}
 use Rattle.edit_trie.proofs.StepLemmas.{find-has, apart-owned}
-use Rattle.edit_trie.proofs.ChildLemmas.{OwnsChild, child-linked, own-linked, own-child, gains-child, child-then}
+use Rattle.edit_trie.proofs.ChildLemmas.{own-child, child-then}
 use Rattle.edit_trie.proofs.PathLemmas.{chain-row, order-row}
 use Rattle.edit_trie.proofs.ChainLemmas.{IsLastRow, front-last, front-path, front-rows, front-rest, front-push, front-stays, front-keyless, child-more, inside-now, past-row, before-same}
 use Rattle.edit_trie.proofs.ChainEdits.{rows-below-stay}

@@ -15,8 +15,10 @@ use Rattle.node_heap.specs.Forms.{node, chain, links_of, links_in, Forms, pair, 
 use Rattle.node_heap.specs.Heap.{Heap, row_at, form_at, links_at, holds_at, live_count, IsGraph, owners_at}
 use Rattle.node_heap.specs.Calls.{KeepsBelow, HasHolds}
 use Rattle.node_heap.specs.InPlace.{child_at, OwnsDown, path_start, path_then, Changes, ReachesAround, at_once}
-use Rattle.node_heap.specs.Owner.{Owner, by_hold, by_place, owned, held_by, holds_beside, links_beside, relinked, WritesOnly, WritesOnlyLeft}
-use Rattle.node_heap.proofs.CallerLemmas.{Reaches-by, test_same, one_at-flip, count-link as count-cons, IsDown, others-beside, others-below, left-below, left-held, Reaches-trans, IsOwners-heap, around-path, Reaches-last, Reaches-around, Reaches-avoids, ReachesAround-then, ReachesAround-trans, ReachesAround-same, IsGraph-acyclic}
+use Rattle.node_heap.specs.declared.owner.Owner.{Owner}
+use Rattle.node_heap.specs.declared.owner.Owner.TheVariants.{Hold as by_hold, Child as by_place}
+use Rattle.node_heap.specs.Owner.{owned, held_by, holds_beside, links_beside, relinked, WritesOnly, WritesOnlyLeft}
+use Rattle.node_heap.proofs.CallerLemmas.{Reaches-by, test_same, one_at-flip, count-link as count-cons, IsDown, others-beside, others-below, left-below, left-held, Reaches-trans, IsOwners-heap, around-path, Reaches-last, Reaches-around, Reaches-avoids, ReachesAround-then, ReachesAround-trans, ReachesAround-same, IsGraph-acyclic, sole-before}
 use Rattle.champ_chain.specs.Entry.{Entry, key_at, key_of, entry, IsEntry, has_key, others}
 use Rattle.champ_chain.specs.Chain.{AreChainRows}
 use Rattle.champ_chain.proofs.CallerLemmas.{links-form, same-sym, same-find}
@@ -31,12 +33,11 @@ use Rattle.champ_kinds.specs.Kinds.{IsPair, IsMapOf}
 use Rattle.champ_kinds.proofs.CallerLemmas.{zip-as, zip-all}
 use Rattle.edit_trie.specs.Path.{pair_path}
 use Rattle.edit_trie.specs.Edit.{by_bits, IsPairOfKey}
-use Rattle.edit_trie.specs.Root.{CanOwn, IsApart}
+use Rattle.node_heap.specs.Root.{CanOwn, IsApart}
 use Rattle.edit_trie.specs.Laws.{EditsKeepValues, CutsKeepValues, CutsKeepHeld, PairChangesBind, PairChangesKeepValues}
 use Rattle.edit_trie.proofs.PathLemmas.{Paths, path_of, edit-paths, pair-paths, rows_below, rows-first, IsKeyless, down-below}
 use Rattle.edit_trie.proofs.MapLemmas.{pair-key, all-found, found-link, zip-found, one-out, pair-by, pairs-left, all-others}
 use Rattle.edit_trie.proofs.RowLemmas.{row-form}
-use Rattle.edit_trie.proofs.ChildLemmas.{sole-before}
 use Rattle.edit_trie.proofs.StepLemmas.{find-has}
 
 module _ {T : Type 0} (h : Heap T) where

@@ -3,6 +3,7 @@ use Rattle.std.proofs.Common.{◌≡◌, ℕ, suc, ◌+◌, ◌-◌, ◌<◌, �
 use Rattle.std.specs.declared.cmp.Ordering.{Ordering}
 use Rattle.elem_core.specs.Codes.{digit_at}
 use Rattle.elem_core.specs.declared.codes.TheConstants.{DEEPEST, LEVELS}
+use Rattle.node_heap.specs.Links.{HasLink}
 use Rattle.node_heap.specs.Heap.{Heap, row_at, form_at, links_at, owners_at, IsGraph}
 use Rattle.node_heap.specs.InPlace.{child_at}
 use Rattle.node_heap.specs.Reads.{IsTrieForm}
@@ -12,13 +13,12 @@ use Rattle.champ_trie.specs.Trie.{IsTrie, IsPlace, IsRow, place_of}
 use Rattle.champ_trie.specs.Reach.{agreeing}
 use Rattle.champ_trie.specs.declared.place.Place.{Place}
 use Rattle.champ_trie.specs.declared.place.Place.TheVariants.{Entry as At, Node, Empty}
-use Rattle.champ_trie.proofs.CallerLemmas.{place-entry, place-node, place-empty, read-place, sets-short}
-use Rattle.champ_trie.proofs.ReachLemmas.{row-there, next-place, trie-chain}
+use Rattle.champ_trie.proofs.CallerLemmas.{place-entry, place-node, place-empty, read-place, sets-short, row-there, next-place, trie-chain}
+use Rattle.node_heap.proofs.CallerLemmas.{child-linked}
 use Rattle.edit_trie.specs.Spot.{IsSpot}
 use Rattle.edit_trie.specs.Way.{IsSoleWay}
 use Rattle.edit_trie.specs.declared.row.Spot.{Spot}
 use Rattle.edit_trie.specs.declared.row.Spot.TheVariants.{Entry as EntryAt, Node as NodeAt, Empty as NoneAt}
-use Rattle.edit_trie.proofs.ChildLemmas.{child-linked}
 use Rattle.edit_trie.proofs.LoneLemmas.{link-at}
 use Rattle.edit_trie.proofs.RowLemmas.{row-links, row-read, spot-read, entry-inside, node-inside}
 
@@ -80,8 +80,11 @@ module _ {T : Type 0} (cmp : T → T → Ordering) (code : T → ℕ) (h : Heap 
       there : child ≡ child_at h row i
       there = link-at ls' (links_at h row) i child is (sym links-of) inside
 
+      pub child-of : HasLink (links_at h) row child
+      child-of = subst (HasLink (links_at h) row) (sym there) (child-linked h row i inside)
+
       pub child-live : IsGraph h → IsSome (row_at h child)
-      child-live graph = subst (λ l. IsSome (row_at h l)) (sym there) (graph.closed row (child_at h row i) (child-linked h row i inside))
+      child-live graph = graph.closed row child child-of
 
       -- one step more of a way
       pub way-more : (root : ℕ) → IsSoleWay h root c d row → owners_at h child ≡ 1 → IsSoleWay h root c (d + 1) child

@@ -14,7 +14,10 @@ pub mod MapLemmas
 pub mod EditLemmas
 pub mod RootLemmas
 pub mod BindLemmas
+pub mod TrieTop
 pub mod MapTop
+pub mod AddLemmas
+pub mod SetTop
 pub mod LawLemmas
 pub mod LeadLemmas
 pub mod CallerLemmas

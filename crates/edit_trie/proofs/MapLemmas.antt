@@ -11,7 +11,8 @@ use Rattle.elem_core.specs.declared.codes.TheConstants.{DEEPEST}
 use Rattle.node_heap.specs.Links.{Reaches, here}
 use Rattle.node_heap.specs.Forms.{Forms, Form, cell, node, pair, value_of, links_in, form_of}
 use Rattle.node_heap.specs.Heap.{Heap, row_at, form_at}
-use Rattle.node_heap.specs.Owner.{Owner, owned}
+use Rattle.node_heap.specs.declared.owner.Owner.{Owner}
+use Rattle.node_heap.specs.Owner.{owned}
 use Rattle.node_heap.proofs.CallerLemmas.{Reaches-then, IsOwned}
 use Rattle.champ_chain.specs.Entry.{Entry, entry, IsEntry, SameSet, same_first, same_turned, same_through, has_key, key_at, key_of, link_with, others}
 use Rattle.champ_chain.proofs.CallerLemmas.{same-refl, count-cons}

@@ -1,26 +1,25 @@
 -- What each edit makes of a whole map, once the root was made its owner's own.
-use Rattle.std.proofs.Common.{◌≡◌, ◌≢◌, ℕ, ◌+◌, ◌<◌, ◌≤◌, List, ◌∷◌, length, get_or, ap, sym, subst, ◌∙◌, arith, IsSome, option_map, inl, inr, [], refl, cond, Some, Option, None, ◌-◌, ◌^◌, min}
+use Rattle.std.proofs.Common.{◌≡◌, ◌≢◌, ℕ, ◌+◌, ◌<◌, ◌≤◌, List, ◌∷◌, length, get_or, ap, sym, subst, ◌∙◌, arith, IsSome, option_map, inl, inr, [], refl, cond, Some, Option, None, ◌-◌}
 use Rattle.std.specs.declared.cmp.Ordering.{Ordering}
 use Rattle.std.specs.Prelude.{count_by, option_to_list, MatchOption}
 use Rattle.std.specs.List.{All, AllZip, find}
 use Rattle.std.specs.Cmp.{IsTotalOrder, Equal-is}
 use Rattle.std.specs.declared.cmp.Ordering.TheVariants.{Equal}
-use Rattle.std.proofs.lemmas.Bool.{cases_eq}
 use Rattle.std.proofs.lemmas.Cmp.{tied_back}
 use Rattle.std.proofs.lemmas.List.Elements.{All-head, All-tail, All-weaker}
 use Rattle.elem_core.specs.declared.codes.TheConstants.{DEEPEST, LEVELS}
-use Rattle.node_heap.specs.Links.{count, HasLink, here, Reaches, SameBelow}
-use Rattle.node_heap.specs.Forms.{links_in, form_of, links_of, Forms}
+use Rattle.node_heap.specs.Links.{count, HasLink, here, Reaches}
+use Rattle.node_heap.specs.Forms.{links_in, form_of, links_of, is_node}
 use Rattle.node_heap.specs.Heap.{Heap, row_at, form_at, links_at, owners_at, live_count, IsGraph, holds_at, one_at}
-use Rattle.node_heap.specs.InPlace.{other_at, child_at, Changes}
-use Rattle.node_heap.specs.Owner.{Owner, owned, KeepsAlone, alone, written, WritesOnly, EditsBy, WritesOnlyLeft}
+use Rattle.node_heap.specs.InPlace.{child_at, Changes}
+use Rattle.node_heap.specs.declared.owner.Owner.{Owner}
+use Rattle.node_heap.specs.Owner.{owned, KeepsAlone, alone, WritesOnly, EditsBy}
 use Rattle.node_heap.specs.Calls.{MakesWhatCame, KeepsBelow, SameRows, AddsOwner, Makes, Releases}
-use Rattle.node_heap.proofs.CallerLemmas.{SameBelow-link, KeepsAlone-own, alone-own, written-own, IsOwned, Builds-refl, Changes-Builds, EditsBy-more, Reaches-by, count-cons, test_same, test_other, Reaches-last, linked-places, KeepsBelow-trans, Changes-beside, Changes-follow, Changes-more, Changes-Releases, roots-off}
+use Rattle.node_heap.proofs.CallerLemmas.{IsOwned, Builds-refl, Changes-Builds, EditsBy-more, Reaches-by, count-cons, test_same, test_other, Reaches-last, linked-places, Changes-beside, Changes-follow, Changes-more, is-owned}
 use Rattle.champ_chain.specs.Entry.{Entry, entry, IsEntry, has_key, link_with, others, put, SameSet}
-use Rattle.champ_chain.proofs.CallerLemmas.{links-form, key-live, rows-live}
-use Rattle.champ_chain.specs.Chain.{AreChainRows}
+use Rattle.champ_chain.proofs.CallerLemmas.{links-form, key-live}
 use Rattle.champ_trie.specs.Trie.{IsCanon, code_by}
-use Rattle.champ_trie.proofs.CallerLemmas.{forms-below, canon-below, names-keys, canon-fit, put-distinct, canon-reach, has-one-set, canon-stays, others-distinct}
+use Rattle.champ_trie.proofs.CallerLemmas.{forms-below, names-keys, canon-fit, put-distinct, canon-reach, has-one-set}
 use Rattle.champ_trie.specs.Reach.{alike_in}
 use Rattle.champ_trie.specs.declared.TheConstants.{ADD_NODES}
 use Rattle.champ_kinds.specs.Binding.{Binding, binds, unbind, value_with, alike_keys}
@@ -28,84 +27,24 @@ use Rattle.champ_kinds.specs.Kinds.{IsPair, HasEntries, IsMapOf}
 use Rattle.champ_kinds.proofs.CallerLemmas.{alike-pairs, map-any_order, others-same, zip-follows, container-stays}
 use Rattle.champ_kinds.specs.declared.map.TheConstants.{INSERT_NODES}
 use Rattle.champ_kinds.specs.Edit.{PutsPair}
-use Rattle.edit_trie.specs.Path.{KeepsShared, MakesCopies, pair_rows, pair_path, edit_rows, way_rows, edit_path, key_way, MakesFew, chain_rows}
-use Rattle.edit_trie.specs.Walk.{MakesShared, CanEditBelow, HasPair, OwnsIn, CutsIn}
-use Rattle.edit_trie.specs.declared.own.TheConstants.{OWN_NODES}
+use Rattle.edit_trie.specs.Path.{KeepsShared, MakesCopies, pair_rows, pair_path, edit_rows, way_rows, edit_path, key_way, MakesFew}
+use Rattle.edit_trie.specs.Walk.{CanEditBelow, HasPair, OwnsIn, CutsIn}
+use Rattle.edit_trie.specs.declared.own_pair.TheConstants.{OWN_NODES}
 use Rattle.edit_trie.specs.Edit.{by_bits, IsPairOfKey, OwnsPair, PutsValue, OwnsEntry, CutsKey}
 use Rattle.edit_trie.specs.Bound.{CanBind, Binds}
-use Rattle.edit_trie.specs.Root.{OwnsRoot, ChangesUp}
-use Rattle.edit_trie.proofs.PathLemmas.{Paths, path_of, rows_below, rows-first, below-moved, down-first, down-below, pair-paths, pair-avoids, edit-paths, rows-stay, chain-fuel, edit-says, edit-avoids, stays-below}
-use Rattle.edit_trie.proofs.StepLemmas.{shared-own, copies-own, made-own, alone-first, find-has, none-live, off-first}
+use Rattle.node_heap.specs.Root.{OwnsRoot, ChangesUp, OwnsBy}
+use Rattle.edit_trie.proofs.TrieTop.{root-node, way-alone, way-shared, way-count, way-length, way-copies, way-others, can-edit, root-held, root-sole, cut-held, entries-cut, cut-names, cut-rows, release, root-below, entries-new, cut-path, made-new, cut-others}
+use Rattle.edit_trie.proofs.PathLemmas.{pair-paths, pair-avoids, edit-paths}
+use Rattle.edit_trie.proofs.StepLemmas.{find-has}
 use Rattle.edit_trie.proofs.RowLemmas.{node-form}
 use Rattle.edit_trie.proofs.ChildLemmas.{sole-last}
 use Rattle.edit_trie.proofs.InChainLemmas.{count-take}
 use Rattle.edit_trie.proofs.MapLemmas.{map-owned, entries-owned, pairs-left, one-out, zip-found, found-link, find-same, count-binds, all-others, pair-by, pair-key, all-found}
 use Rattle.edit_trie.proofs.WayLemmas.{way-paths}
-use Rattle.edit_trie.proofs.ChainEdits.{rows-below-stay}
-use Rattle.edit_trie.proofs.RootLemmas.{is-owned}
 
-module _ {T : Type 0} {cmp : T → T → Ordering} {code : T → ℕ} {owner : Owner} {old mid : Heap T} {r : ℕ} (own : IsOwned owner old mid r) {E : List (Entry T)} (is : IsCanon cmp code (form_at old) (owned old owner) E) (p : Paths cmp code) (c most : ℕ) where
-  abbrev root : ℕ
-  root = owned old owner
-
-  abbrev tail : List ℕ
-  tail = rows_below (p.entry (form_at old)) (p.chain (form_at old) most) (form_at old) DEEPEST 0 c root
-
-  was : path_of p (form_at old) most LEVELS 0 c root ≡ root ∷ tail
-  was = rows-first (p.entry (form_at old)) (p.chain (form_at old) most) (form_at old) DEEPEST 0 c root
-
-  now : path_of p (form_at mid) most LEVELS 0 c r ≡ r ∷ tail
-  now =
-      let F = form_at old in
-      let G = form_at mid in
-      rows-first (p.entry G) (p.chain G most) G DEEPEST 0 c r
-      ∙ ap (λ ks. r ∷ ks) (below-moved cmp code F G (stays-below F G) (p.entry F) (p.chain F most) (p.entry G) (p.chain G most) (p.says F G _ (stays-below F G) most) DEEPEST 0 c root r E (ap (option_map form_of) own.row_same)
-      (λ s has. SameBelow-link (links_in F) F G root s has (forms-below old mid root own.below)) is.trie)
-
-  next : 1 ≤ length tail → HasLink (links_at old) root (get_or tail 0 0)
-  next some = down-first old root tail (down-below old cmp code (p.entry (form_at old)) (p.chain (form_at old) most) (p.goes old most) DEEPEST 0 c root E is.trie) some
-
-  abbrev pub before : List ℕ
-  before = path_of p (form_at old) most LEVELS 0 c (owned old owner)
-
-  abbrev pub after : List ℕ
-  after = path_of p (form_at mid) most LEVELS 0 c r
-
-  -- what keeps the path from there on keeps the whole
-  pub way-alone : (path' : List ℕ) → KeepsAlone mid after path' → KeepsAlone old before path'
-  way-alone path' keep = subst (λ ks. KeepsAlone old ks path') (sym was) (KeepsAlone-own old mid root r tail own.same own.sole own.owners own.graph next path' (subst (λ ks. KeepsAlone mid ks path') now keep))
-
-  pub way-shared : (path' : List ℕ) → KeepsShared mid after path' → KeepsShared old before path'
-  way-shared path' keep = subst (λ ks. KeepsShared old ks path') (sym was) (shared-own old mid root r own.same own.sole own.owners own.graph tail next path' (subst (λ ks. KeepsShared mid ks path') now keep))
-
-  -- it has one alone row more where the root was copied, and as many rows
-  pub way-count : alone mid after ≡ alone old before + other_at (owned old owner) r
-  way-count = omega (arith, ap (alone mid) now, ap (alone old) was, alone-own old mid root r tail own.same own.sole own.owners own.graph next)
-
-  pub way-length : length after ≡ length before
-  way-length = omega (arith, ap length now, ap length was)
-
-  -- as many rows came beside
-  pub way-copies : (new : Heap T) → MakesCopies mid new after → MakesCopies old new before
-  way-copies new came = subst (MakesCopies old new) (sym was) (copies-own old mid root r own.same own.sole own.owners own.graph tail next new own.came (subst (MakesCopies mid new) now came))
-
-  pub way-made : (new : Heap T) (z : ℕ) (zs : List ℕ) → MakesShared mid new after (z ∷ zs) → MakesShared old new before (z ∷ zs)
-  way-made new z zs came =
-      subst (λ ks. MakesShared old new ks (z ∷ zs)) (sym was) (made-own old mid root r own.same own.sole own.owners own.graph tail next new own.came z zs (subst (λ ks. MakesShared mid new ks (z ∷ zs)) now came))
-
-  -- a row that isn't written isn't the root's own, nor written from there on
-  pub way-off : (m : ℕ) → IsSome (row_at old m) → count m (written old before) ≡ 0 → (m ≢ r) × (count m (written mid after) ≡ 0)
-  way-off m live off =
-      let path : count m (written old (root ∷ tail)) ≡ 0 = subst (λ ks. count m (written old ks) ≡ 0) was off in
-      let gone : r ≢ root → m ≢ r = λ copy e. none-live (row_at old m) (ap (row_at old) e ∙ own.fresh copy) live in
-      let other : m ≢ r = λ e. elim (cases_eq r root) as (λ _. ⊥) [
-        | inl itself ↦ (off-first old root m tail (own.same.0 itself) path).0 (e ∙ itself)
-        | inr copy ↦ gone copy e
-      ] in
-      (other, subst (λ ks. count m (written mid ks) ≡ 0) (sym now) (written-own old mid root r tail own.same own.sole own.owners own.graph next m gone path))
-
-  pub way-others : (new : Heap T) → ((m : ℕ) → IsSome (row_at mid m) → count m (written mid after) ≡ 0 → row_at new m ≡ row_at mid m) → WritesOnly owner old new r before
-  way-others new others m live off = let both = way-off m live off in others m (own.live m live) both.1 ∙ own.kept m both.0 live
+-- the root of a map is a node
+pub map-node : {T : Type 0} {cmp : T → T → Ordering} {code : T → ℕ} {h : Heap T} {bits root : ℕ} {M : List (Binding T)} → IsMapOf cmp code h (by_bits bits root) M → is_node (row_at h root) ≡ 1
+map-node is = root-node is.rooted
 
 -- the root of a map was made its owner's own, and can be edited then
 module _ {T : Type 0} {cmp : T → T → Ordering} {code : T → ℕ} (o : IsTotalOrder cmp) {owner : Owner} {bits : ℕ} {old mid : Heap T} {r : ℕ} (own : IsOwned owner old mid r) {M : List (Binding T)} (is : IsMapOf cmp code old (by_bits bits (owned old owner)) M) (key : T) where
@@ -119,7 +58,7 @@ module _ {T : Type 0} {cmp : T → T → Ordering} {code : T → ℕ} (o : IsTot
   rooted-mid = entries-owned cmp code owner bits old mid r own is.entries is.rooted
 
   pub can-top : IsGraph mid → CanEditBelow cmp (code_by code bits) mid DEEPEST 0 r (code_by code bits key) is.entries
-  can-top graph = record { graph = graph; sole = own.sole; below = canon-below cmp (code_by code bits) (form_at mid) r (code_by code bits key) is.entries rooted-mid.trie }
+  can-top graph = can-edit o own is.rooted key graph
 
   pairs-mid : AllZip (IsPair (form_at mid)) is.entries M
   pairs-mid = map-owned cmp code owner bits old mid r own M is
@@ -337,141 +276,53 @@ module _ {T : Type 0} {cmp : T → T → Ordering} {code : T → ℕ} (o : IsTot
         let links : links_at mid pair-at.0.link ≡ b.2.key_cell ∷ value ∷ [] = sym (links-form mid pair-at.0.link) ∙ ap links_of b.2.row ∙ ap (λ v. b.2.key_cell ∷ v ∷ []) is_value in
         subst (λ ks. 0 < count value ks) (sym links) (omega (arith, count-cons value b.2.key_cell (value ∷ []), count-cons value value [], test_same value value refl))
 
-    held-four : 0 < holds_at four r
-    held-four = omega (arith, held, did.changes.trades.holds r)
-
-    sole-four : owners_at four r ≡ 1
-    sole-four = did.changes.paths.soles r (here r) own.sole
-
     value-other : value ≢ r
     value-other same = omega (arith, held, own.sole, linked-places mid.rows pair-at.0.link r (subst (HasLink (links_at mid) pair-at.0.link) same linked))
 
     pub value-off : ¬ Reaches (links_at four) value r
     value-off way = elim (Reaches-last (links_at four) value r way) as (λ _. ⊥) [
       | inl same ↦ absurd (value-other same)
-      | inr last ↦ absurd (omega (arith, held-four, sole-four, linked-places four.rows last.0 r last.2))
+      | inr last ↦ absurd (omega (arith, root-held o own is.rooted key held did, root-sole o own is.rooted key held did, linked-places four.rows last.0 r last.2))
     ]
 
     pub value-live : IsSome (row_at four value)
     value-live = did.gains.stays value (graph.closed pair-at.0.link value linked)
 
-    pub cut-held : one_at r cut < holds_at four cut
-    cut-held = elim (cases_eq r cut) as (λ _. one_at r cut < holds_at four cut) [
-      | inl same ↦ omega (arith, did.changes.trades.holds cut, count-cons cut cut [], test_same cut cut refl, test_same cut r (sym same), held, ap (holds_at mid) same)
-      | inr other ↦ omega (arith, did.changes.trades.holds cut, count-cons cut cut [], test_same cut cut refl, test_other cut r (λ same. other (sym same)))
-    ]
-
     module _ {five : Heap T} (rows : SameRows four five) (holds : (k : ℕ) → holds_at five k ≡ holds_at four k + one_at value k) (owners : AddsOwner four five value) (hold : Changes r four five [] (value ∷ []) 0 0) where
-      pub cut-off : ¬ Reaches (links_at five) cut r
-      cut-off = roots-off five r cut (omega (arith, held-four, holds r)) (omega (arith, sole-four, owners r, test_other r value (λ same. value-other (sym same)))) (omega (arith, cut-held, holds cut))
+      held-five : 0 < holds_at five r
+      held-five = omega (arith, root-held o own is.rooted key held did, holds r)
+
+      sole-five : owners_at five r ≡ 1
+      sole-five = omega (arith, root-sole o own is.rooted key held did, owners r, test_other r value (λ same. value-other (sym same)))
+
+      cut-five : one_at r cut < holds_at five cut
+      cut-five = omega (arith, cut-held o own is.rooted key held did, holds cut)
 
       module _ {new : Heap T} (rel : Releases five new cut) (graph_new : IsGraph new) (below : (l : ℕ) → IsSome (row_at new l) → KeepsBelow five new l) where
-        release : Changes r five new (cut ∷ []) [] 0 0
-        release = Changes-Releases five new cut hold.trades.graph rel r cut-off graph_new
-
         change : Changes r mid new [] (value ∷ []) 0 (DEEPEST + alike_in (code_by code bits) (code_by code bits key) is.entries)
         change =
             let both = Changes-beside did.changes hold in
-            let all = Changes-follow (cut ∷ []) [] (value ∷ []) [] [] both release in
+            let all = Changes-follow (cut ∷ []) [] (value ∷ []) [] [] both (release o own is.rooted key held did rows held-five sole-five cut-five rel graph_new below hold.trades.graph) in
             Changes-more 0 _ all (omega arith) (omega arith)
 
-        root-held : 0 < holds_at new r
-        root-held = elim (cases_eq r cut) as (λ _. 0 < holds_at new r) [
-          | inl same ↦ omega (arith, rel.holds r, holds r, cut-held, ap (holds_at four) same, test_same r cut same, test_same cut r (sym same))
-          | inr other ↦ omega (arith, rel.holds r, holds r, held-four, test_other r cut other)
-        ]
-
-        root-live : IsSome (row_at new r)
-        root-live = (rel.stays r).1 (r, root-held, here r)
-
-        -- all below the root stays from the cut on
-        root-below : KeepsBelow four new r
-        root-below = KeepsBelow-trans four five new r (λ m way. rows m) (below r root-live)
-
-        canon-four : IsCanon cmp (code_by code bits) (form_at four) r (others cmp key is.entries)
-        canon-four = record { trie = did.trie; distinct = others-distinct cmp (code_by code bits) key is.entries rooted-mid.trie.distinct }
-
-        cut-names : All (IsEntry (form_at four)) (others cmp key is.entries)
-        cut-names = names-keys cmp (code_by code bits) (form_at four) r (others cmp key is.entries) canon-four
-
-        cut-rows : All (λ d. row_at four d.link ≡ row_at mid d.link) (others cmp key is.entries)
-        cut-rows =
-            all-others cmp key (IsEntry (form_at mid)) (λ d. row_at four d.link ≡ row_at mid d.link)
-            (λ d apart keyed.
-            let path = edit_rows cmp (form_at mid) key (length is.entries) LEVELS 0 c r in
-            let off = edit-avoids cmp (code_by code bits) (form_at mid) d.link d.key keyed key (length is.entries) LEVELS 0 c r is.entries rooted-mid.trie.trie in
-            let live = key-live mid d.link d.key keyed in
-            did.others (length is.entries) (omega arith) d.link live (did.gains.stays d.link live) (count-take d.link path (alone mid path) off))
-            is.entries (names-keys cmp (code_by code bits) (form_at mid) r is.entries rooted-mid.trie)
+        pub entries-left : HasEntries cmp code new (by_bits bits r) (others cmp key is.entries)
+        entries-left = entries-new o own is.rooted key held did rows held-five sole-five cut-five rel graph_new below
 
         map-four : IsMapOf cmp code four (by_bits bits r) (unbind cmp key M)
         map-four = record {
           entries = others cmp key is.entries;
-          rooted = record { bits = is.rooted.bits; trie = canon-four };
-          pairs = pairs-left cmp mid four key is.entries M pairs-mid cut-rows cut-names;
+          rooted = entries-cut o own is.rooted key held did;
+          pairs = pairs-left cmp mid four key is.entries M pairs-mid (cut-rows o own is.rooted key held did) (cut-names o own is.rooted key held did);
         }
-
-        -- entries, whatever they stand for
-        pub entries-new : HasEntries cmp code new (by_bits bits r) (others cmp key is.entries)
-        entries-new = record { bits = is.rooted.bits; trie = canon-stays (form_at four) (form_at new) r (forms-below four new r root-below) cmp (code_by code bits) (others cmp key is.entries) canon-four }
-
-        short-mid : length is.entries ≤ live_count mid
-        short-mid = canon-fit cmp (code_by code bits) o mid r is.entries rooted-mid.trie
-
-        -- the path is read alike once the rest was given up
-        now-path : edit_path cmp code new bits key r ≡ edit_rows cmp (form_at four) key (live_count four) LEVELS 0 c r
-        now-path =
-            let F = form_at four in
-            let G = form_at new in
-            rows-stay cmp (code_by code bits) F G (stays-below F G) (λ _. []) (λ q. chain_rows cmp F key (λ _. []) (live_count four) (Some q)) (λ _. []) (λ q. chain_rows cmp G key (λ _. []) (live_count new) (Some q))
-            (record {
-              entry = λ y k same keyed. refl;
-              chain = λ k P same chained.
-                  let stay = (edit-says cmp (code_by code bits) F G (stays-below F G) key (live_count four)).chain k P same chained in
-                  let there = key-rows F G k chained.entries same chained.rows in
-                  chain-fuel cmp G key (λ _. []) (live_count new) (live_count four) (Some k) chained.entries (rows-live new graph_new chained.entries (Some k) there) (rows-live four did.changes.trades.graph chained.entries (Some k) chained.rows) there ∙ stay;
-            }) LEVELS 0 c r (others cmp key is.entries) (forms-below four new r root-below) did.trie
-          where
-            key-rows : (F G : Forms T) (k : ℕ) (es : List (Entry T)) → SameBelow (links_in F) F G k → AreChainRows F (Some k) es → AreChainRows G (Some k) es
-            key-rows F G k es same rows = rows-below-stay F G (Some k) es (λ m e. let one : k ≡ m = cc in subst (SameBelow (links_in F) F G) one same) rows
-
-        cut-path : KeepsShared old (edit_path cmp code old bits key (owned old owner)) (edit_path cmp code new bits key r)
-        cut-path =
-            let path' = edit_rows cmp (form_at four) key (live_count four) LEVELS 0 c r in
-            let more : live_count mid ≤ live_count four = omega (arith, did.gains.makes.live) in
-            let keep = did.path (live_count old) (live_count four) short-old (omega (arith, short-mid, more)) in
-            subst (KeepsShared old (edit_path cmp code old bits key (owned old owner))) (sym now-path) (way-shared own is.rooted.trie (edit-paths cmp (code_by code bits) key) c (live_count old) path' keep)
-
-        -- as many rows came before the rest was given up
-        came-four : MakesShared old four (edit_path cmp code old bits key (owned old owner)) (edit_path cmp code new bits key r)
-        came-four =
-            let path' = edit_rows cmp (form_at four) key (live_count four) LEVELS 0 c r in
-            let C' = λ (q : ℕ). chain_rows cmp (form_at four) key (λ _. []) (live_count four) (Some q) in
-            let zs = rows_below (λ _. []) C' (form_at four) DEEPEST 0 c r in
-            let first : path' ≡ r ∷ zs = rows-first (λ _. []) C' (form_at four) DEEPEST 0 c r in
-            let more : live_count mid ≤ live_count four = omega (arith, did.gains.makes.live) in
-            let came = subst (MakesShared mid four (edit_rows cmp (form_at mid) key (live_count old) LEVELS 0 c r)) first (did.came (live_count old) (live_count four) short-old (omega (arith, short-mid, more))) in
-            subst (MakesShared old four (edit_path cmp code old bits key (owned old owner))) (sym (now-path ∙ first))
-            (way-made own is.rooted.trie (edit-paths cmp (code_by code bits) key) c (live_count old) four r zs came)
-
-        made-new : MakesWhatCame old four → Makes four five 0 0 → new.made ≡ min (old.made + (length (edit_path cmp code new bits key r) - alone old (edit_path cmp code old bits key (owned old owner)))) (2 ^ 64 - 1)
-        made-new makes none =
-            omega (arith, makes.live, makes.made, none.made, rel.made, came-four, alone-first old (length (edit_path cmp code new bits key r)) (edit_path cmp code old bits key (owned old owner)))
-
-        cut-others : WritesOnlyLeft owner old new r (edit_path cmp code old bits key (owned old owner))
-        cut-others m live live' off =
-            let both = way-off own is.rooted.trie (edit-paths cmp (code_by code bits) key) c (live_count old) m live off in
-            let live_mid = own.live m live in
-            rel.same m live' ∙ rows m ∙ did.others (live_count old) short-old m live_mid (did.gains.stays m live_mid) both.1 ∙ own.kept m both.0 live
 
         pub cuts-key : MakesWhatCame old four → Makes four five 0 0 → CutsKey cmp code owner bits old new r M key value
         cuts-key makes none = record {
-          map = (container-stays four new (by_bits bits r) root-below).map cmp code (unbind cmp key M) map-four;
+          map = (container-stays four new (by_bits bits r) (root-below o own is.rooted key held did rows held-five sole-five cut-five rel graph_new below)).map cmp code (unbind cmp key M) map-four;
           back = back;
           edits = EditsBy-more 0 (LEVELS + alike_keys code bits key M) (own.edits new [] (value ∷ []) 0 (DEEPEST + alike_in (code_by code bits) c is.entries) change) (omega arith) (omega (arith, alike-top));
-          path = cut-path;
-          others = cut-others;
-          made = made-new makes none;
+          path = cut-path o own is.rooted key held did rows held-five sole-five cut-five rel graph_new below;
+          others = cut-others o own is.rooted key held did rows held-five sole-five cut-five rel graph_new below;
+          made = made-new o own is.rooted key held did rows held-five sole-five cut-five rel graph_new below makes (omega (arith, none.made, makes.made));
         }
 
 -- with nothing edited yet
@@ -483,7 +334,7 @@ module _ {T : Type 0} (cmp : T → T → Ordering) (code : T → ℕ) (owner : O
   edits-top graph = own.edits mid [] [] 0 0 (Changes-Builds r graph (λ k up one. one) (Builds-refl mid [] 0 0 graph))
 
 -- the way to a pair was made the owner's own, once the root was
-module _ {T : Type 0} {cmp : T → T → Ordering} {code : T → ℕ} (total : IsTotalOrder cmp) {owner : Owner} {cells nodes : ℕ} {old mid : Heap T} {r : ℕ} (owns : OwnsRoot owner cells nodes old mid r) {bits : ℕ} {M : List (Binding T)} (is : IsMapOf cmp code old (by_bits bits (owned old owner)) M) (key : T) where
+module _ {T : Type 0} {cmp : T → T → Ordering} {code : T → ℕ} (total : IsTotalOrder cmp) {owner : Owner} {old mid : Heap T} {r : ℕ} (owns : OwnsRoot owner old mid r) {bits : ℕ} {M : List (Binding T)} (is : IsMapOf cmp code old (by_bits bits (owned old owner)) M) (key : T) where
   pub pair-owned : (x : ℕ) → link_with cmp key is.entries ≡ Some x → (e : Entry T) × HasPair cmp mid is.entries key e
   pair-owned = pair-top total (is-owned owns) is key
 
@@ -495,11 +346,14 @@ module _ {T : Type 0} {cmp : T → T → Ordering} {code : T → ℕ} (total : I
       did : OwnsIn cmp (code_by code bits) mid new DEEPEST 0 r (code_by code bits key) is.entries key e link
       did = subst (λ m. OwnsIn cmp (code_by code bits) mid new DEEPEST 0 r m is.entries key e link) code_is made
 
-      pub owns-by : ((j k : T) → cmp j k ≡ Equal → code j ≡ code k) → OwnsPair cmp code owner bits old new r M key link
-      owns-by equal_codes = owns-pair total (is-owned owns) is key equal_codes new e link pair did (owns.makes new did.gains).0
+      pub owns-by : ((j k : T) → cmp j k ≡ Equal → code j ≡ code k) → MakesWhatCame old new → OwnsPair cmp code owner bits old new r M key link
+      owns-by equal_codes came = owns-pair total (is-owned owns) is key equal_codes new e link pair did came
 
       pub up-by : ChangesUp owner old new r [] [] 0 (OWN_NODES + alike_keys code bits key M)
       up-by = owns.up new [] [] 0 _ _ (omega (arith, alike-top total (is-owned owns) is key)) did.changes (λ l some. absurd (omega (arith, some)))
+
+      pub down-by : OwnsBy owner new link
+      down-by = owns.down new [] [] 0 _ did.changes (λ l some. absurd (omega (arith, some))) link did.down
 
       pub entry-by : OwnsEntry cmp code old new (by_bits bits r) is.entries key link
       entry-by = owned-entry total (is-owned owns) is key new e link pair did

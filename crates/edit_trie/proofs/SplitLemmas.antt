@@ -25,7 +25,7 @@ use Rattle.champ_trie.specs.declared.place.Place.TheVariants.{Entry as At, Node,
 use Rattle.champ_trie.proofs.CallerLemmas.{place-entry, at-link, trie-stays, IsAlone, alone, eq-apart, put-apart}
 use Rattle.edit_trie.specs.Path.{edit_rows, way_rows, MakesFew}
 use Rattle.edit_trie.specs.Spot.{PutsAt}
-use Rattle.edit_trie.specs.Walk.{PutsIn}
+use Rattle.edit_trie.specs.Walk.{PutsEntryIn}
 use Rattle.edit_trie.proofs.StepLemmas.{AtRow, digit, digit-small, part-find, place-is, elsewhere, entry-stays, trie-with, puts-then, shared-one, none-live, path-was, path-now, off-row}
 use Rattle.edit_trie.proofs.PathLemmas.{edit-paths, rows-stay, stays-below}
 use Rattle.edit_trie.proofs.WayLemmas.{few-came, live-along, two-rows, way-paths, way-says}
@@ -223,7 +223,7 @@ module _ {T : Type 0} {cmp : T → T → Ordering} {code : T → ℕ} {old : Hea
             change.trades.nodes,
           )
 
-      pub puts-split : PutsIn cmp code old new left d row c E key x
+      pub puts-split : PutsEntryIn cmp code old new left d row c E key x
       puts-split = record {
         trie = trie-new;
         changes = Changes-more 0 (left + 1 + alike_in code c E) (Changes-then changes-two change) (omega arith) (omega (arith, b.few, ap (chain_nodes c) b.is_key, al.few));

@@ -16,7 +16,7 @@ use Rattle.node_heap.specs.Heap.{Heap, row_at, form_at, links_at, owners_at, liv
 use Rattle.node_heap.specs.InPlace.{child_at, Changes, other_at}
 use Rattle.node_heap.specs.Owner.{written, KeepsAlone, alone}
 use Rattle.node_heap.specs.Calls.{KeepsBelow, Gains}
-use Rattle.node_heap.proofs.CallerLemmas.{count-cons, test_same, SameBelow-link, KeepsAlone-cons, KeepsAlone-own, written-cons, written-own, IsGraph-acyclic, KeepsAlone-none, alone-yes, alone-no, alone-own, Reaches-live}
+use Rattle.node_heap.proofs.CallerLemmas.{count-cons, test_same, SameBelow-link, KeepsAlone-cons, KeepsAlone-own, written-cons, written-own, IsGraph-acyclic, KeepsAlone-none, alone-yes, alone-no, alone-own, Reaches-live, OwnsChild, own-beneath, own-child-there}
 use Rattle.champ_chain.specs.Entry.{Entry, entry, has_key, link_with, others, IsEntry, put}
 use Rattle.champ_chain.specs.Chain.{IsChain}
 use Rattle.champ_chain.proofs.CallerLemmas.{links-form}
@@ -30,7 +30,7 @@ use Rattle.edit_trie.specs.Path.{rows_from_place, KeepsShared, MakesCopies}
 use Rattle.edit_trie.specs.Spot.{IsSpot, PutsAt}
 use Rattle.edit_trie.specs.Walk.{EditsChild, CanEditBelow, MakesShared}
 use Rattle.edit_trie.specs.declared.row.Spot.TheVariants.{Node as NodeAt, Entry as EntryAt, Empty as NoneAt}
-use Rattle.edit_trie.proofs.ChildLemmas.{OwnsChild, own-beneath, own-then, own-child-there}
+use Rattle.edit_trie.proofs.ChildLemmas.{own-then}
 use Rattle.edit_trie.proofs.PathLemmas.{Paths, path_of, path-at, rows_below, rows-first, rows-last, below-moved, down-first, down-below, stays-below}
 use Rattle.edit_trie.proofs.RowLemmas.{row-form, row-links, row-child, row-keyless, keyed-row, keys-stay}
 use Rattle.edit_trie.proofs.SpotLemmas.{StandsAt, beside-entry, beside-node, set-entry, set-node}

@@ -6,7 +6,8 @@ use Rattle.elem_core.specs.declared.codes.TheConstants.{LEVELS}
 use Rattle.node_heap.specs.Heap.{Heap, form_at, owners_at, IsGraph}
 use Rattle.node_heap.specs.Calls.{Gains}
 use Rattle.node_heap.specs.InPlace.{Changes}
-use Rattle.node_heap.specs.Owner.{by_hold, WritesOnly}
+use Rattle.node_heap.specs.declared.owner.Owner.TheVariants.{Hold as by_hold}
+use Rattle.node_heap.specs.Owner.{WritesOnly}
 use Rattle.champ_chain.specs.Entry.{Entry, others, link_with}
 use Rattle.champ_trie.specs.Trie.{code_by}
 use Rattle.champ_trie.specs.Reach.{alike_in}

@@ -1,18 +1,21 @@
--- What each edit in place makes of a map, which goes by an owner of its root.
+-- What each edit in place makes of a map or a set, which goes by an owner of its root.
 use Rattle.std.specs.Prelude.{◌≡◌, ℕ, ◌+◌, ◌-◌, ◌^◌, List, [], ◌∷◌, length, min, Option, Some, MatchOption, option_to_list}
+use Rattle.champ_trie.specs.declared.TheConstants.{ADD_NODES}
+use Rattle.champ_trie.specs.Reach.{alike_to}
 use Rattle.champ_kinds.specs.declared.map.TheConstants.{INSERT_NODES}
-use Rattle.edit_trie.specs.declared.own.TheConstants.{OWN_NODES}
+use Rattle.edit_trie.specs.declared.own_pair.TheConstants.{OWN_NODES}
 use Rattle.std.specs.List.{find}
 use Rattle.std.specs.declared.cmp.Ordering.{Ordering}
 use Rattle.elem_core.specs.declared.codes.TheConstants.{LEVELS}
 use Rattle.node_heap.specs.Heap.{Heap, row_at, owners_at}
 use Rattle.node_heap.specs.Calls.{MakesWhatCame}
 use Rattle.node_heap.specs.InPlace.{child_at, OwnsDown}
-use Rattle.node_heap.specs.Owner.{Owner, owned, EditsBy, KeepsAlone, alone, WritesOnly, WritesOnlyLeft}
+use Rattle.node_heap.specs.declared.owner.Owner.{Owner}
+use Rattle.node_heap.specs.Owner.{owned, EditsBy, KeepsAlone, alone, WritesOnly, WritesOnlyLeft}
 use Rattle.champ_chain.specs.Entry.{Entry, entry, has_key, link_with, others}
 use Rattle.champ_kinds.specs.Root.{Root}
 use Rattle.champ_kinds.specs.Binding.{Binding, bind, unbind, value_with, alike_keys}
-use Rattle.champ_kinds.specs.Kinds.{HasEntries, IsMapOf}
+use Rattle.champ_kinds.specs.Kinds.{HasEntries, IsMapOf, IsSetOf}
 use Rattle.edit_trie.specs.Path.{edit_path, pair_path, key_way, KeepsShared, MakesCopies, MakesFew}
 
 -- a root, and how many bits of the codes its map goes by
@@ -69,3 +72,23 @@ module _ {T : Type 0} (cmp : T → T → Ordering) (code : T → ℕ) where
       pub gains : MakesCopies old new (pair_path cmp code old bits key (owned old owner))
       pub others : WritesOnly owner old new root (pair_path cmp code old bits key (owned old owner))
       pub makes : MakesWhatCame old new
+
+  module _ (owner : Owner) (bits : ℕ) (old new : Heap T) (root : ℕ) (E : List (Entry T)) (key : T) where
+    -- the set has the key besides, in a cell that came. No more rows came than the path has that aren't alone, than the way to the
+    -- key is longer now, and than the cell
+    pub record AddsKey : Type 0 where
+      pub cell : ℕ
+      pub set : IsSetOf cmp code new (by_bits bits root) (entry key cell ∷ E)
+      pub edits : EditsBy owner old new root [] [] 1 (ADD_NODES + alike_to code bits key E)
+      pub path : KeepsShared old (edit_path cmp code old bits key (owned old owner)) (edit_path cmp code new bits key root)
+      pub gains : MakesFew old new (edit_path cmp code old bits key (owned old owner)) (key_way cmp code old bits key (owned old owner)) (key_way cmp code new bits key root) 1
+      pub others : WritesOnly owner old new root (edit_path cmp code old bits key (owned old owner))
+      pub makes : MakesWhatCame old new
+
+    -- the set is without the key. As many rows were made as the path has now, beside those that were alone
+    pub record CutsEntry : Type 0 where
+      pub set : IsSetOf cmp code new (by_bits bits root) (others cmp key E)
+      pub edits : EditsBy owner old new root [] [] 0 (LEVELS + alike_to code bits key E)
+      pub path : KeepsShared old (edit_path cmp code old bits key (owned old owner)) (edit_path cmp code new bits key root)
+      pub others : WritesOnlyLeft owner old new root (edit_path cmp code old bits key (owned old owner))
+      pub made : new.made ≡ min (old.made + (length (edit_path cmp code new bits key root) - alone old (edit_path cmp code old bits key (owned old owner)))) (2 ^ 64 - 1)

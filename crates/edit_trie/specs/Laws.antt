@@ -8,7 +8,9 @@ use Rattle.node_heap.specs.Forms.{head_of}
 use Rattle.node_heap.specs.Heap.{Heap, row_at, form_at, links_at, holds_at, IsGraph}
 use Rattle.node_heap.specs.Calls.{KeepsBelow}
 use Rattle.node_heap.specs.InPlace.{child_at, OwnsDown, Changes}
-use Rattle.node_heap.specs.Owner.{Owner, by_hold, owned, holds_beside, KeepsBeside, IsOwner, WritesOnly, WritesOnlyLeft}
+use Rattle.node_heap.specs.declared.owner.Owner.{Owner}
+use Rattle.node_heap.specs.declared.owner.Owner.TheVariants.{Hold as by_hold}
+use Rattle.node_heap.specs.Owner.{owned, holds_beside, KeepsBeside, IsOwner, WritesOnly, WritesOnlyLeft}
 use Rattle.champ_chain.specs.Entry.{key_at}
 use Rattle.champ_kinds.specs.Root.{Root}
 use Rattle.champ_kinds.specs.Binding.{Binding, bind}

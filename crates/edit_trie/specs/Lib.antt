@@ -1,7 +1,7 @@
 pub mod Path
 pub mod Spot
 pub mod Edit
-pub mod Root
+pub mod Room
 pub mod Walk
 pub mod Way
 pub mod Chains

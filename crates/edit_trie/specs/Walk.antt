@@ -7,7 +7,8 @@ use Rattle.node_heap.specs.Forms.{head_of, is_node}
 use Rattle.node_heap.specs.Heap.{Heap, row_at, form_at, links_at, owners_at, live_count, IsGraph}
 use Rattle.node_heap.specs.Calls.{KeepsBelow, Gains}
 use Rattle.node_heap.specs.InPlace.{child_at, OwnsDown, Changes}
-use Rattle.node_heap.specs.Owner.{by_hold, KeepsAlone, alone, written, WritesOnly, WritesOnlyLeft}
+use Rattle.node_heap.specs.declared.owner.Owner.TheVariants.{Hold as by_hold}
+use Rattle.node_heap.specs.Owner.{KeepsAlone, alone, written, WritesOnly, WritesOnlyLeft}
 use Rattle.champ_chain.specs.Entry.{Entry, entry, has_key, others, put, IsEntry}
 use Rattle.champ_trie.specs.Trie.{IsTrie}
 use Rattle.champ_trie.specs.Reach.{alike_in}
@@ -59,7 +60,7 @@ module _ {T : Type 0} (cmp : T → T → Ordering) (code : T → ℕ) where
       pub apart : (most : ℕ) → length E ≤ most → MissesPath old (pair_rows cmp (form_at old) key most (suc left) depth c row) link
 
     -- an entry of the key, which was absent, stands below the row now
-    pub record PutsIn (link : ℕ) : Type 0 where
+    pub record PutsEntryIn (link : ℕ) : Type 0 where
       pub trie : IsTrie cmp code (form_at new) (suc left) depth row (put cmp E (entry key link))
       pub changes : Changes row old new (link ∷ []) [] 0 (left + 1 + alike_in code c E)
       pub gains : Gains old new

@@ -16,14 +16,14 @@ use node_heap::{Heap, Link};
 
 // A place of a chain's row: a child of the row above it, which has one owner. It may be one past that row's last link.
 #[derive(Clone, Copy)]
-pub(crate) struct Slot {
+pub(crate) struct RowPlace {
     pub(crate) row: Link,
     pub(crate) index: usize,
 }
 
 // Makes the first rows of a chain the caller's own, so many of them, and gives the place after them. The row above is no
 // entry.
-fn own_rows<T>(heap: &mut Heap<T>, first: Slot, number: usize) -> Slot
+fn own_rows<T>(heap: &mut Heap<T>, first: RowPlace, number: usize) -> RowPlace
     requires graph { IsGraph heap.old }
     requires keyless { key_at (form_at heap.old) first.row ≡ None }
     requires sole { owners_at heap.old first.row ≡ 1 }
@@ -36,7 +36,7 @@ fn own_rows<T>(heap: &mut Heap<T>, first: Slot, number: usize) -> Slot
     let mut slot = first;
     for _passed in 0..number {
         let row = heap.own_child(slot.row, slot.index);
-        slot = Slot { row, index: 1 };
+        slot = RowPlace { row, index: 1 };
     }
     slot
 }
@@ -44,7 +44,7 @@ fn own_rows<T>(heap: &mut Heap<T>, first: Slot, number: usize) -> Slot
 // Makes the way to the pair of a key, which is in the chain at a place, the caller's own, and gives the pair.
 pub(crate) fn own_in_chain<T: Element, P: Probe<T>>(
     heap: &mut Heap<T>,
-    first: Slot,
+    first: RowPlace,
     key: &P,
 ) -> Link
     requires graph { IsGraph heap.old }
@@ -63,7 +63,7 @@ pub(crate) fn own_in_chain<T: Element, P: Probe<T>>(
 }
 
 // Puts an entry, whose key is absent, into the chain at a place.
-pub(crate) fn put_in_chain<T: Element>(heap: &mut Heap<T>, first: Slot, entry: Link)
+pub(crate) fn put_in_chain<T: Element>(heap: &mut Heap<T>, first: RowPlace, entry: Link)
     requires graph { IsGraph heap.old }
     requires keyless { key_at (form_at heap.old) first.row ≡ None }
     requires sole { owners_at heap.old first.row ≡ 1 }
@@ -105,7 +105,7 @@ fn take_next<T>(heap: &mut Heap<T>, row: Link, index: usize) -> Option<Link>
 // Takes the row of the key, which is there, out of the chain at a place, with a hold. Two entries or more are left.
 pub(crate) fn cut_from_chain<T: Element, P: Probe<T>>(
     heap: &mut Heap<T>,
-    first: Slot,
+    first: RowPlace,
     key: &P,
 ) -> Link
     requires graph { IsGraph heap.old }

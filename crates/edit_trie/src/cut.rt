@@ -17,7 +17,7 @@ ghost use Rattle.champ_trie.specs.Trie.{IsRow, part, code_by};
 ghost use Rattle.champ_trie.specs.Reach.{alike_in};
 ghost use Rattle.edit_trie.specs.Walk.{CanEditBelow, CutsIn};
 
-use crate::chain::{Slot, cut_from_chain};
+use crate::chain::{RowPlace, cut_from_chain};
 use crate::lone::lone_below;
 use crate::row::{Spot, put_entry, spot_at, take_entry, take_node};
 use elem_core::{CODE_BITS, Code, DEEPEST, Element, Probe, digit};
@@ -51,7 +51,7 @@ pub(crate) fn cut_below<T: Element, P: Probe<T>>(
                 return lift(heap, row, depth, lone, position);
             }
             if depth == DEEPEST {
-                return cut_from_chain(heap, Slot { row, index }, key);
+                return cut_from_chain(heap, RowPlace { row, index }, key);
             }
             let child = heap.own_child(row, index);
             cut_below(heap, child, depth + 1, key, code, bits)

@@ -2,21 +2,22 @@
 ghost use Rattle.std.specs.Prelude.{◌≡◌, ◌↔◌, ℕ, ◌+◌, ◌^◌, ◌<◌, ◌≤◌, List, [], ◌∷◌, IfOk, IfSome, IfErr, IsOk, OnOk, OnErr, Ok, None};
 ghost use Rattle.node_heap.specs.Heap.{row_at, holds_at, owners_at, hold_count, HasSpares, half_holds};
 ghost use Rattle.node_heap.specs.Calls.{Extends, KeepsBelow, KeepsToNeed, HasHolds, MakesWhatCame};
-ghost use Rattle.node_heap.specs.Owner.{by_hold, EditsBy};
+ghost use Rattle.node_heap.specs.declared.owner.Owner.TheVariants.{Hold as by_hold};
+ghost use Rattle.node_heap.specs.Owner.{EditsBy};
 ghost use Rattle.champ_chain.specs.Entry.{Entry, others};
 ghost use Rattle.champ_kinds.specs.Binding.{Binding, alike_keys, value_with};
 ghost use Rattle.champ_kinds.specs.Kinds.{HasEntries, IsMapOf};
 ghost use Rattle.champ_kinds.specs.Edit.{PutsPair};
 ghost use Rattle.edit_trie.specs.Edit.{PutsValue, CutsKey, OwnsEntry, OwnsPair};
 
-use crate::by::{insert_by, own_by};
 use crate::cut::cut_below;
-use crate::own::OWN_NODES;
-use crate::owner::{Owner, own_root};
+use crate::own_pair::OWN_NODES;
+use crate::owned_map::{insert_by, own_by};
+use crate::owner::reserved_root;
 use champ_kinds::{INSERT_NODES, Map, MapFault, MapRef};
 use champ_trie::look_up;
 use elem_core::{Element, LEVELS, NoMemory, Probe, masked};
-use node_heap::{Heap, Link};
+use node_heap::{Heap, Link, Owner};
 use std::marker::Model;
 
 /// A map that is edited in place. It owns one hold of its root, and cannot be dropped or copied.
@@ -146,7 +147,7 @@ impl TrieEdit {
         };
         let value = heap.links(pair)[1];
         let nodes = found.alike + usize::from(LEVELS);
-        self.root = own_root(heap, &Owner::Hold(self.root), 0, nodes)?;
+        self.root = reserved_root(heap, &Owner::Hold(self.root), 0, nodes)?;
         let code = masked(key.code(), self.bits);
         let cut = cut_below(heap, self.root, 0, key, code, self.bits);
         heap.hold(value);

@@ -7,9 +7,9 @@ ghost use Rattle.champ_chain.specs.Entry.{Entry, key_at, link_with};
 ghost use Rattle.champ_trie.specs.Bits.{has};
 ghost use Rattle.champ_trie.specs.Trie.{IsRow, code_by};
 ghost use Rattle.champ_trie.specs.Reach.{alike_in};
-ghost use Rattle.edit_trie.specs.Walk.{CanEditBelow, PutsIn};
+ghost use Rattle.edit_trie.specs.Walk.{CanEditBelow, PutsEntryIn};
 
-use crate::chain::{Slot, put_in_chain};
+use crate::chain::{RowPlace, put_in_chain};
 use crate::row::{Spot, put_entry, put_node, spot_at, take_entry};
 use champ_chain::key_of;
 use champ_trie::node_of_two;
@@ -35,14 +35,14 @@ pub(crate) fn put_below<T: Element>(
         × (left + 1 + alike_in (code_by T.code_of bits) code E ≤ heap.old.spare_nodes) }
     ensures { (E : List (Entry T)) (left : ℕ) (k : T) → CanEditBelow T.cmp (code_by T.code_of bits) heap.old left depth row code E →
         key_at (form_at heap.old) entry ≡ Some k → code ≡ code_by T.code_of bits k → link_with T.cmp k E ≡ None →
-        PutsIn T.cmp (code_by T.code_of bits) heap.old heap.new left depth row code E k entry }
+        PutsEntryIn T.cmp (code_by T.code_of bits) heap.old heap.new left depth row code E k entry }
 {
     match spot_at(heap, row, digit(code, depth)) {
         Spot::Empty => put_entry(heap, row, depth, digit(code, depth), entry),
         Spot::Entry(_) => split(heap, row, depth, entry, code, bits),
         Spot::Node(index) => {
             if depth == DEEPEST {
-                put_in_chain(heap, Slot { row, index }, entry);
+                put_in_chain(heap, RowPlace { row, index }, entry);
                 return;
             }
             let child = heap.own_child(row, index);
@@ -64,7 +64,7 @@ fn split<T: Element>(heap: &mut Heap<T>, row: Link, depth: u8, entry: Link, code
         × (left + 1 + alike_in (code_by T.code_of bits) code E ≤ heap.old.spare_nodes) }
     ensures { (E : List (Entry T)) (left : ℕ) (k : T) → CanEditBelow T.cmp (code_by T.code_of bits) heap.old left depth row code E →
         key_at (form_at heap.old) entry ≡ Some k → code ≡ code_by T.code_of bits k → link_with T.cmp k E ≡ None →
-        PutsIn T.cmp (code_by T.code_of bits) heap.old heap.new left depth row code E k entry }
+        PutsEntryIn T.cmp (code_by T.code_of bits) heap.old heap.new left depth row code E k entry }
 {
     let position = digit(code, depth);
     let old = take_entry(heap, row, depth, position);

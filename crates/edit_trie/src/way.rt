@@ -1,41 +1,42 @@
 //! The way of a code down a trie.
-ghost use Rattle.std.specs.Prelude.{◌≡◌, ◌↔◌, ℕ, ◌<◌, ◌≤◌, List, [], ◌∷◌, IsSome, IsTrue, true, false};
-ghost use Rattle.node_heap.specs.Heap.{row_at, form_at, owners_at, IsGraph, row_limit};
-ghost use Rattle.champ_chain.specs.Entry.{Entry, entry as entry_of, key_at, link_with};
+ghost use Rattle.std.specs.Prelude.{◌≡◌, ◌↔◌, ℕ, ◌<◌, ◌≤◌, List, IsSome, IsTrue, true, false};
+ghost use Rattle.node_heap.specs.Links.{HasLink};
+ghost use Rattle.node_heap.specs.Heap.{row_at, form_at, links_at, owners_at, IsGraph, row_limit};
+ghost use Rattle.champ_chain.specs.Entry.{Entry, link_with};
 ghost use Rattle.champ_trie.specs.Trie.{IsTrieOf, code_by};
 ghost use Rattle.champ_trie.specs.Reach.{alike_in};
 ghost use Rattle.edit_trie.specs.Way.{IsSoleWay, LeadsDown};
 
 use crate::row::{Spot, spot_in};
-use champ_chain::{key_of, look_up as look_up_in_chain};
-use champ_trie::Found;
-use elem_core::{CODE_BITS, Code, DEEPEST, Element, Probe, digit, masked};
+use champ_chain::look_up as look_up_in_chain;
+use champ_trie::{Found, found_alone};
+use elem_core::{CODE_BITS, Code, DEEPEST, Element, Probe, digit};
 use node_heap::{Heap, Link, TrieRef};
-use std::cmp::Ordering;
 
 // A row on the way of a code, its depth, and whether it and each row above it have one owner.
 #[derive(Clone, Copy)]
-pub(crate) struct Way {
+pub(crate) struct Reached {
     pub row: Link,
     pub depth: u8,
     pub sole: bool,
 }
 
-// Whether all above has one owner each, and the link has one too.
+// Whether the parent and all above it have one owner each, and the child has one too.
 #[inline]
-fn is_alone_below<T>(heap: &Heap<T>, above: bool, link: Link) -> bool
-    requires { IsSome (row_at heap.now link) }
-    ensures { IsTrue result ↔ (IsTrue above × (owners_at heap.now link ≡ 1)) }
+fn is_alone_below<T>(heap: &Heap<T>, above: bool, parent: Link, child: Link) -> bool
+    requires live { IsSome (row_at heap.now child) }
+    requires linked { HasLink (links_at heap.now) parent child }
+    ensures { IsTrue result ↔ (IsTrue above × (owners_at heap.now child ≡ 1)) }
 {
     if !above {
         return false;
     }
-    heap.is_alone(link)
+    heap.child_has_one_owner(parent, child)
 }
 
 // The lowest row to which the digits of a code lead from a root.
 #[inline]
-pub(crate) fn way_of<T: Element>(heap: &Heap<T>, root: Link, code: Code) -> Way
+pub(crate) fn way_of<T: Element>(heap: &Heap<T>, root: Link, code: Code) -> Reached
     requires trie { (bits : ℕ) × (E : List (Entry T)) × IsTrieOf T.cmp T.code_of bits heap.now root E }
     ensures graph { IsGraph heap.now }
     ensures deep { result.depth ≤ DEEPEST }
@@ -45,7 +46,7 @@ pub(crate) fn way_of<T: Element>(heap: &Heap<T>, root: Link, code: Code) -> Way
 {
     heap.rows_form_a_graph();
     let mut row = root;
-    let mut sole = heap.is_alone(root);
+    let mut sole = heap.has_one_owner(root);
     for depth in 0..DEEPEST {
         let TrieRef {
             entries,
@@ -54,13 +55,14 @@ pub(crate) fn way_of<T: Element>(heap: &Heap<T>, root: Link, code: Code) -> Way
         } = heap.trie(row);
         match spot_in(entries, nodes, digit(code, depth)) {
             Spot::Node(index) => {
-                row = links[index];
-                sole = is_alone_below(heap, sole, row);
+                let child = links[index];
+                sole = is_alone_below(heap, sole, row, child);
+                row = child;
             }
-            _ => return Way { row, depth, sole },
+            _ => return Reached { row, depth, sole },
         }
     }
-    Way {
+    Reached {
         row,
         depth: DEEPEST,
         sole,
@@ -71,7 +73,7 @@ pub(crate) fn way_of<T: Element>(heap: &Heap<T>, root: Link, code: Code) -> Way
 #[inline]
 pub(crate) fn found_below<T: Element, P: Probe<T>>(
     heap: &Heap<T>,
-    way: &Way,
+    way: &Reached,
     key: &P,
     code: Code,
     bits: u32,
@@ -100,44 +102,15 @@ pub(crate) fn found_below<T: Element, P: Probe<T>>(
     }
 }
 
-// The same where one entry stands. Equal keys have equal codes, so the entry's is worked out only where they differ.
-#[inline]
-fn found_alone<T: Element, P: Probe<T>>(
-    heap: &Heap<T>,
-    entry: Link,
-    key: &P,
-    code: Code,
-    bits: u32,
-) -> Found
-    requires bits { bits ≤ CODE_BITS }
-    requires keyed { IsSome (key_at (form_at heap.now) entry) }
-    requires code { code ≡ code_by T.code_of bits (P.stands_for key.now) }
-    ensures entry { (k : T) → key_at (form_at heap.now) entry ≡ Some k → result.entry ≡ link_with T.cmp (P.stands_for key.now) (entry_of k entry ∷ []) }
-    ensures alike { (k : T) → key_at (form_at heap.now) entry ≡ Some k → result.alike ≡ alike_in (code_by T.code_of bits) code (entry_of k entry ∷ []) }
-    ensures few { result.alike ≤ 1 }
-{
-    let stored = key_of(heap, entry);
-    match key.order(stored) {
-        Ordering::Equal => Found {
-            entry: Some(entry),
-            alike: 1,
-        },
-        _ => Found {
-            entry: None,
-            alike: usize::from(masked(Element::code(stored), bits) == code),
-        },
-    }
-}
-
 // Where an edit may begin once the root is its owner's own: at the way's row, where neither that nor one above it is shared.
-pub(crate) fn start(way: &Way, root: Link) -> Way
+pub(crate) fn start(way: &Reached, root: Link) -> Reached
     ensures sole { way.now.sole ≡ true → result ≡ way.now }
     ensures top { way.now.sole ≡ false → (result.row ≡ root) × (result.depth ≡ 0) }
 {
     if way.sole {
         *way
     } else {
-        Way {
+        Reached {
             row: root,
             depth: 0,
             sole: true,

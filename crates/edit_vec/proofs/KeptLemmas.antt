@@ -7,7 +7,8 @@ use Rattle.node_heap.specs.Links.{count, HasLink, Reaches, here, below}
 use Rattle.node_heap.specs.Forms.{links_in}
 use Rattle.node_heap.specs.Heap.{Heap, row_at, form_at, links_at, IsGraph}
 use Rattle.node_heap.specs.Calls.{KeepsBelow}
-use Rattle.node_heap.specs.Owner.{Owner, owned, WritesOnly, WritesOnlyLeft, IsOwner}
+use Rattle.node_heap.specs.declared.owner.Owner.{Owner}
+use Rattle.node_heap.specs.Owner.{owned, WritesOnly, WritesOnlyLeft, IsOwner}
 use Rattle.node_heap.proofs.Counts.{test_same}
 use Rattle.node_heap.proofs.BuildLemmas.{count-cons, count-append}
 use Rattle.node_heap.proofs.Edited.{count-at}

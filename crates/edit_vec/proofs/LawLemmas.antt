@@ -7,7 +7,8 @@ use Rattle.node_heap.specs.Heap.{Heap, form_at}
 use Rattle.rrb_core.specs.Seq.{seq}
 use Rattle.rrb_core.specs.Vector.{height_at}
 use Rattle.edit_vec.specs.Path.{keep_or_stop, up_to_last, right_spine, push_path, pop_spine, pop_path, root_goes}
-use Rattle.node_heap.specs.Owner.{by_hold, owned, written, WritesOnly, WritesOnlyLeft}
+use Rattle.node_heap.specs.declared.owner.Owner.TheVariants.{Hold as by_hold}
+use Rattle.node_heap.specs.Owner.{owned, written, WritesOnly, WritesOnlyLeft}
 use Rattle.edit_vec.proofs.PathLemmas.{rows_below, rows-below, spine_below, spine-below}
 use Rattle.node_heap.proofs.BesidePath.{others-beside, left-held}
 use Rattle.edit_vec.proofs.KeptLemmas.{IsTall, down-rows, down-spine, down-take, others-elements, left-elements}

@@ -6,7 +6,6 @@ pub mod StepRows
 pub mod ReachLemmas
 pub mod KeptLemmas
 pub mod LawLemmas
-pub mod OwnerLemmas
 pub mod TopLemmas
 pub mod SetTop
 pub mod GrowLemmas

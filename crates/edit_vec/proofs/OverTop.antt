@@ -12,7 +12,8 @@ use Rattle.node_heap.specs.Forms.{form_of, head_of, links_of, is_node}
 use Rattle.node_heap.specs.Heap.{Heap, row_at, form_at, links_at, holds_at, owners_at, hold_count, live_count, half_holds}
 use Rattle.node_heap.specs.Calls.{KeepsBelow, KeepsOwners, KeepsOldOwners, Builds, Makes, Gains, HasHolds}
 use Rattle.node_heap.specs.InPlace.{child_at, Writes, Changes}
-use Rattle.node_heap.specs.Owner.{by_hold, by_place, links_beside, relinked, with_root}
+use Rattle.node_heap.specs.declared.owner.Owner.TheVariants.{Hold as by_hold, Child as by_place}
+use Rattle.node_heap.specs.Owner.{links_beside, relinked, with_root}
 use Rattle.node_heap.proofs.Counts.{test_other}
 use Rattle.node_heap.proofs.BuildLemmas.{count-cons, count-one, Builds-both, Builds-more}
 use Rattle.node_heap.proofs.GraphLemmas.{IsGraph-acyclic}
@@ -35,10 +36,10 @@ use Rattle.rrb_core.proofs.Stays.{live-stays, below-stays, vector-stays, well-li
 use Rattle.rrb_core.proofs.RowLists.{one-row, rows-append, good-row, root-row}
 use Rattle.edit_vec.specs.Path.{right_spine, push_path}
 use Rattle.edit_vec.specs.Edit.{PushesElement}
-use Rattle.edit_vec.specs.Steps.{CanPushRoot, PushesChild, IsRootOver}
+use Rattle.edit_vec.specs.Steps.{CanPushRoot, PushesRoot, IsRootOver}
 use Rattle.edit_vec.proofs.PushLemmas.{node-headed, packed-stays}
 use Rattle.edit_vec.proofs.PushTop.{path-packed, spine-length}
-use Rattle.edit_vec.proofs.TopLemmas.{makes-gained}
+use Rattle.node_heap.proofs.CallerLemmas.{makes-gained}
 
 -- the rows of the new root: the old root, and a row over the element alone
 module _ {T : Type 0} {old mid : Heap T} {root child n e : ℕ} (can : CanPushRoot old root e) (held : HasHolds old (root ∷ e ∷ [])) (height : n ≡ height_at old root) (packed : IsPacked (form_at old) n root) (sub : MakesRow old mid (e ∷ []) n child (e ∷ [])) where
@@ -259,13 +260,13 @@ module _ {T : Type 0} {old mid : Heap T} {parent place root n e : ℕ} (can : Ca
           let has : HasLink (links_at made) top over.0 = rw over.1 (count-at (root ∷ over.0 ∷ []) 1 over.0 (omega arith) refl) in
           (over.0, ap links_of (keeps top (here top)) ∙ over.1 ∙ ap (λ (l : ℕ). l ∷ over.0 ∷ []) is, seq-stays (below-stays {old = made} {new = new} top keeps) n over.0 (below top over.0 over.0 has (here over.0)) ∙ over.2)
 
-      pub pushes-place : IsRootOver made n root top e → PushesChild old new parent place e
+      pub pushes-place : IsRootOver made n root top e → PushesRoot (by_place parent place) old new top e
       pushes-place over =
           let size : n + 2 ≤ height_at old (child_at old parent place) + 2 = omega (arith, height) in
           let path : push_path (form_at old) (child_at old parent place) ≡ [] = rw (← height) (path-packed (form_at old) n (child_at old parent place) packed) in
           let changes : Changes parent old new (e ∷ []) [] 0 (height_at old (child_at old parent place) + 2) = Changes-more 0 (height_at old (child_at old parent place) + 2) changes-new (omega arith) size in
           record {
-            pushes = rw top-new (record {
+            pushes = record {
               vector = vector-new;
               rule = over-rule old new height packed tall-new (over-place over);
               edits = record { beside = λ l m some way. rows-new m (live-beside l m way (can.graph.held l (omega (arith, some)))); trades = changes.trades };
@@ -275,7 +276,7 @@ module _ {T : Type 0} {old mid : Heap T} {parent place root n e : ℕ} (can : Ca
                   rw path all;
               others = λ m live off. rows-new m live;
               makes = makes-gained gains-new;
-            });
-            changes = changes;
+            };
+            up = (changes, top-new);
             gains = gains-new;
           }

@@ -1,18 +1,18 @@
 -- What is said of a child that is made its parent's own, and what stays through that.
 use Rattle.node_heap.specs.declared.row.Head.{Head}
-use Rattle.std.proofs.Common.{◌≡◌, ◌≢◌, ℕ, ◌+◌, ◌*◌, ◌<◌, ◌≤◌, List, [], ◌∷◌, length, get_or, set, refl, ap, sym, subst, ◌∙◌, arith, None, IsSome, inl, inr, length-set, Option, Some}
+use Rattle.std.proofs.Common.{◌≡◌, ◌≢◌, ℕ, ◌+◌, ◌*◌, ◌<◌, ◌≤◌, [], ◌∷◌, length, set, refl, ap, sym, subst, ◌∙◌, arith, None, IsSome, inl, inr, length-set, Option, Some}
 use Rattle.std.specs.Prelude.{◌↔◌}
 use Rattle.std.proofs.lemmas.Bool.{cases_eq}
 use Rattle.std.proofs.lemmas.List.{get_or-set_same}
 use Rattle.node_heap.specs.Links.{count, HasLink, Reaches, here, below}
-use Rattle.node_heap.specs.Forms.{head_of, links_of}
+use Rattle.node_heap.specs.Forms.{head_of}
 use Rattle.node_heap.specs.Heap.{Heap, row_at, links_at, holds_at, owners_at, one_at, IsGraph}
 use Rattle.node_heap.specs.Calls.{Makes, Gains, KeepsOwners}
 use Rattle.node_heap.specs.InPlace.{other_at, child_at, OwnsDown, Changes, Writes}
 use Rattle.node_heap.proofs.Counts.{count-cons, test_other}
 use Rattle.node_heap.proofs.Frames.{Makes-trans}
 use Rattle.node_heap.proofs.Reach.{Reaches-then}
-use Rattle.node_heap.proofs.Ways.{Reaches-last, Reaches-avoids}
+use Rattle.node_heap.proofs.Ways.{Reaches-last}
 use Rattle.node_heap.proofs.GraphLemmas.{IsGraph-acyclic, linked-places}
 use Rattle.node_heap.proofs.EditLaws.{Gains-Changes}
 use Rattle.node_heap.proofs.Edited.{count-at, IsOwners-heap, linked_live, Reaches-back, KeepsBelow-apart, OwnsDown-child, Changes-beside, Changes-more}
@@ -127,12 +127,6 @@ module _ {T : Type 0} {head : Option Head} {old mid : Heap T} {row place c : ℕ
         let up = o.changes.trades.graph.reached row (linked_live (row_at mid row) c linked-now) in
         let off : up.0 ≢ element = λ same. apart-now (subst (λ j. Reaches (links_at mid) j row) same up.2) in
         (up.0, omega (arith, up.1, count-cons up.0 element [], test_other up.0 element off), up.2)
-
-    pub parent-stays : {new : Heap T} {gained : List ℕ} {cells nodes : ℕ} → Changes c mid new (element ∷ []) gained cells nodes → row_at new row ≡ row_at mid row
-    parent-stays edit = edit.apart.kept holder.0 row holder.1 (Reaches-avoids (links_at mid) c holder.0 row holder.2 (IsGraph-acyclic mid o.changes.trades.graph row c linked-now))
-
-    pub child-now : {new : Heap T} {gained : List ℕ} {cells nodes : ℕ} → Changes c mid new (element ∷ []) gained cells nodes → child_at new row place ≡ c
-    child-now edit = ap (λ w. get_or (links_of w) place 0) (parent-stays edit) ∙ ap (λ (xs : List ℕ). get_or xs place 0) o.parent_links ∙ get_or-set_same (links_at old row) place c 0 o.inside
 
 -- the head of the row was written then
 pub owns-headed : {T : Type 0} {old mid last : Heap T} {row place c : ℕ} {head : Head} → OwnsChild old mid row place c → Writes mid last row (Some head) (links_at mid row) → KeepsOwners mid last → Changes row mid last [] [] 0 0 → Makes mid last 0 0 → OwnsHeaded (Some head) old last row place c

@@ -8,7 +8,8 @@ use Rattle.node_heap.specs.Forms.{form_of, links_of, links_in}
 use Rattle.node_heap.specs.Heap.{Heap, row_at, form_at, links_at, holds_at, hold_count, one_at, IsGraph, half_holds}
 use Rattle.node_heap.specs.Calls.{KeepsBelow, SameRows, Makes, Releases}
 use Rattle.node_heap.specs.InPlace.{child_at, other_at}
-use Rattle.node_heap.specs.Owner.{by_hold, alone, KeepsAlone}
+use Rattle.node_heap.specs.declared.owner.Owner.TheVariants.{Hold as by_hold}
+use Rattle.node_heap.specs.Owner.{alone, KeepsAlone}
 use Rattle.node_heap.proofs.Counts.{test_same, test_other}
 use Rattle.node_heap.proofs.BuildLemmas.{count-cons}
 use Rattle.node_heap.proofs.Frames.{KeepsBelow-trans, Balances-trans, Balances-Makes, Balances-Releases}

@@ -9,7 +9,8 @@ use Rattle.node_heap.specs.Forms.{Forms, form_of, links_in}
 use Rattle.node_heap.specs.Heap.{Heap, form_at, links_at, live_count}
 use Rattle.node_heap.specs.Calls.{MakesWhatCame}
 use Rattle.node_heap.specs.InPlace.{other_at}
-use Rattle.node_heap.specs.Owner.{Owner, owned, alone, KeepsAlone, WritesOnly}
+use Rattle.node_heap.specs.declared.owner.Owner.{Owner}
+use Rattle.node_heap.specs.Owner.{owned, alone, KeepsAlone, WritesOnly}
 use Rattle.node_heap.proofs.OwnerLemmas.{EditsBy-more}
 use Rattle.rrb_core.specs.Seq.{seq_at, IsWell}
 use Rattle.rrb_core.specs.Push.{last_in, IsPacked, IsPushedRoot, IsPushed, into_root}

@@ -1,21 +1,19 @@
 -- Room was made first: an edit after that is the same edit.
-use Rattle.rrb_core.proofs.PushLemmas.{pushed-root-same}
+use Rattle.rrb_core.proofs.CallerLemmas.{pushed-root-same}
 use Rattle.rrb_core.specs.Push.{IsPushedRoot}
 use Rattle.std.proofs.Common.{◌≡◌, ℕ, ◌+◌, ◌<◌, ◌≤◌, List, [], ◌∷◌, length, refl, ap, sym, ◌∙◌, arith, IsSome, ◌++◌, take, ◌-◌, Bool, subst}
 use Rattle.std.specs.Prelude.{option_map, nat_lt, nat_le, ◌==◌, if◌then◌else◌, slice_index, ◌&&◌, slice_set}
 use Rattle.node_heap.proofs.AloneLemmas.{alone-same, KeepsAlone-owners}
-use Rattle.node_heap.proofs.EditLaws.{Changes-Unchanged}
-use Rattle.node_heap.proofs.Edited.{Changes-beside, Changes-more}
-use Rattle.node_heap.proofs.OwnedRows.{graph-before, owned-same}
+use Rattle.node_heap.proofs.OwnedRows.{owned-same}
 use Rattle.node_heap.proofs.OwnerLemmas.{EditsBy-more, EditsBy-Unchanged}
 use Rattle.node_heap.proofs.Owners.{KeepsOwners-Unchanged}
-use Rattle.node_heap.proofs.Reach.{Reaches-by}
 use Rattle.node_heap.specs.Calls.{MakesWhatCame, Unchanged}
 use Rattle.node_heap.specs.Forms.{links_of, links_in, form_of}
-use Rattle.node_heap.specs.Heap.{Heap, row_at, form_at, links_at, live_count, owners_at}
-use Rattle.node_heap.specs.InPlace.{child_at, Changes}
-use Rattle.node_heap.specs.Links.{count, Reaches}
-use Rattle.node_heap.specs.Owner.{Owner, by_place, owned, written, WritesOnly, alone, by_hold, with_root}
+use Rattle.node_heap.specs.Heap.{Heap, row_at, form_at, live_count, owners_at}
+use Rattle.node_heap.specs.Links.{count}
+use Rattle.node_heap.specs.declared.owner.Owner.{Owner}
+use Rattle.node_heap.specs.declared.owner.Owner.TheVariants.{Hold as by_hold}
+use Rattle.node_heap.specs.Owner.{owned, written, WritesOnly, alone, with_root}
 use Rattle.rrb_core.proofs.BuildLemmas.{unchanged-good, same-height}
 use Rattle.rrb_core.proofs.ClosedRows.{Stays}
 use Rattle.rrb_core.proofs.Stays.{well-live, live-stays-by}
@@ -45,10 +43,6 @@ module _ {T : Type 0} {first old : Heap T} (u : Unchanged first old) where
 
   pub height-room : (owner : Owner) → height_at old (owned old owner) ≡ height_at first (owned first owner)
   height-room owner = ap (height_at old) (owned-same u owner) ∙ same-height first old (owned first owner) u.rows
-
-  -- what is held and doesn't reach the parent
-  pub apart-room : (e parent : ℕ) → ¬ Reaches (links_at first) e parent → ¬ Reaches (links_at old) e parent
-  apart-room e parent apart way = apart (Reaches-by (links_at old) (links_at first) (λ l. ap links_of (sym (u.rows l))) e parent way)
 
   -- the paths of edits
   spine-room : (root : ℕ) → IsGoodVector first root → right_spine (form_at old) root ≡ right_spine (form_at first) root
@@ -148,8 +142,3 @@ module _ {T : Type 0} {first old : Heap T} (u : Unchanged first old) where
             let later : new.made ≤ old.made + (length (pop_path (form_at first) root) - alone old (pop_path (form_at first) root)) = rw path at p.made in
             omega (arith, later, u.made, alone-same old first (pop_path (form_at first) root) owners);
       }
-
-  -- a change at a parent, counted by the height of a child
-  pub changes-room : {new : Heap T} {spent gained : List ℕ} (more parent child : ℕ) → Changes parent old new spent gained 0 (height_at old (child_at old parent child) + more) → Changes parent first new spent gained 0 (height_at first (child_at first parent child) + more)
-  changes-room more parent child change =
-      Changes-more 0 (height_at first (child_at first parent child) + more) (Changes-beside (Changes-Unchanged parent (graph-before u) u) change) (omega arith) (omega (arith, height-room (by_place parent child)))

@@ -6,7 +6,8 @@ use Rattle.node_heap.specs.Links.{HasLink, here}
 use Rattle.node_heap.specs.Forms.{form_of}
 use Rattle.node_heap.specs.Heap.{Heap, form_at, links_at, live_count}
 use Rattle.node_heap.specs.InPlace.{other_at}
-use Rattle.node_heap.specs.Owner.{Owner, owned, alone, KeepsAlone, WritesOnly}
+use Rattle.node_heap.specs.declared.owner.Owner.{Owner}
+use Rattle.node_heap.specs.Owner.{owned, alone, KeepsAlone, WritesOnly}
 use Rattle.node_heap.proofs.OwnerLemmas.{EditsBy-more}
 use Rattle.rrb_core.specs.Seq.{seq_at}
 use Rattle.rrb_core.specs.Vector.{elements, height_at, IsGoodVector}

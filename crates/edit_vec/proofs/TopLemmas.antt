@@ -1,16 +1,15 @@
 -- An edit of a whole vector: what the owner owns is made its own, and the edit goes down from there.
-use Rattle.std.proofs.Common.{◌≡◌, ◌≢◌, ℕ, ◌+◌, ◌<◌, ◌≤◌, List, [], ◌∷◌, length, get_or, refl, ap, sym, ◌∙◌, arith, None, IsSome, inl, inr}
+use Rattle.std.proofs.Common.{◌≡◌, ◌≢◌, ℕ, ◌<◌, ◌≤◌, List, [], ◌∷◌, length, get_or, refl, ap, sym, ◌∙◌, arith, None, IsSome, inl, inr}
 use Rattle.std.proofs.lemmas.Bool.{cases_eq}
 use Rattle.node_heap.specs.Links.{count, HasLink, Reaches, here}
 use Rattle.node_heap.specs.Forms.{links_of, links_in, is_node}
 use Rattle.node_heap.specs.Heap.{Heap, row_at, form_at, links_at, holds_at, IsGraph}
-use Rattle.node_heap.specs.Calls.{Gains, HasHolds, KeepsToNeed, MakesWhatCame}
-use Rattle.node_heap.specs.InPlace.{child_at, path_start, Changes}
-use Rattle.node_heap.specs.Owner.{Owner, by_place, owned, EditsBy, written, KeepsAlone, WritesOnly}
+use Rattle.node_heap.specs.Calls.{HasHolds}
+use Rattle.node_heap.specs.declared.owner.Owner.{Owner}
+use Rattle.node_heap.specs.Owner.{owned, EditsBy, written, KeepsAlone, WritesOnly}
 use Rattle.node_heap.proofs.Counts.{count-cons, test_same}
 use Rattle.node_heap.proofs.BuildLemmas.{Builds-refl}
-use Rattle.node_heap.proofs.Edited.{Changes-path, Changes-beside, Changes-more}
-use Rattle.node_heap.proofs.EditLaws.{Changes-Builds, MakesJust-Gains}
+use Rattle.node_heap.proofs.EditLaws.{Changes-Builds}
 use Rattle.node_heap.proofs.AloneLemmas.{written-cons, written-own, KeepsAlone-own}
 use Rattle.node_heap.specs.declared.row.TheConstants.{MOST_HEIGHT}
 use Rattle.rrb_core.specs.Vector.{elements, height_at, IsGoodVector, IsVectorOf}
@@ -21,9 +20,7 @@ use Rattle.rrb_core.proofs.Stays.{links-form, below-stays, row-stays}
 use Rattle.rrb_core.proofs.RowLists.{good-row, root-row}
 use Rattle.edit_vec.specs.Steps.{CanWrite}
 use Rattle.edit_vec.proofs.StepLemmas.{well-node}
-use Rattle.edit_vec.proofs.OwnLemmas.{OwnsChild, linked, stays-below, down, held-now, apart-child, gains-child}
-use Rattle.node_heap.proofs.OwnedRows.{Owns, IsOwned, owned-hold, held-mid, apart-mid}
-use Rattle.edit_vec.proofs.OwnerLemmas.{placed, edits-place}
+use Rattle.node_heap.proofs.OwnedRows.{IsOwned}
 
 -- the root of a vector is a node
 pub good-node : {T : Type 0} {h : Heap T} {l : ℕ} → IsGoodVector h l → is_node (row_at h l) ≡ 1
@@ -32,22 +29,6 @@ good-node {h = h} {l = l} good = well-node h (height_at h l) l good.shape.well
 -- a root and an element that are held beside one another
 pub holds-root : {T : Type 0} (h : Heap T) (root e : ℕ) → HasHolds h (root ∷ e ∷ []) → 0 < holds_at h root
 holds-root h root e held = omega (arith, held root, count-cons root root (e ∷ []), test_same root root refl)
-
--- a child that was made its parent's own
-pub owned-place : {T : Type 0} {old mid : Heap T} {parent child r : ℕ} (o : OwnsChild old mid parent child r) → IsOwned (by_place parent child) old mid r
-owned-place {old = old} {parent = parent} {child = child} o = record {
-  graph = o.graph;
-  below = λ m way. (stays-below o).kept m (child_at old parent child, linked o, way);
-  row_same = o.row_same;
-  same = o.same;
-  sole = o.sole;
-  fresh = o.fresh;
-  owners = o.owners;
-  came = omega (arith, o.makes.live);
-  live = (gains-child o).stays;
-  kept = λ m other some. placed o m other;
-  edits = edits-place o;
-}
 
 -- the root of a vector was made its owner's own
 module _ {T : Type 0} {owner : Owner} {old mid : Heap T} {r n : ℕ} (o : IsOwned owner old mid r) (good : IsGoodVector old (owned old owner)) (height : n ≡ height_at old (owned old owner)) where
@@ -106,23 +87,3 @@ module _ {T : Type 0} {owner : Owner} {old mid : Heap T} {r n : ℕ} (o : IsOwne
     others-owned new others m live off =
         let both = off-owned m live off in
         others m (o.live m live) both.1 ∙ o.kept m both.0 live
-
--- the same of a held root, with an element handed in beside it
-pub write-hold : {T : Type 0} {old mid : Heap T} {root r n : ℕ} (o : Owns old mid root r) (e : ℕ) → HasHolds old (root ∷ e ∷ []) → IsGoodVector old root → n ≡ height_at old root → 8 ≤ old.spare_nodes → CanWrite mid n r e
-write-hold o e held good height spare = can-write (owned-hold o) good height o.builds.graph (omega (arith, spare, o.builds.makes.spare_nodes, o.builds.few_nodes)) (held-mid o e held) (apart-mid o e held)
-
--- and beside a child that was made its parent's own, where it doesn't reach the parent
-pub write-place : {T : Type 0} {old mid : Heap T} {parent child r n e : ℕ} (o : OwnsChild old mid parent child r) → 1 ≤ holds_at old e → ¬ Reaches (links_at old) e parent → IsGoodVector old (child_at old parent child) → n ≡ height_at old (child_at old parent child) → 8 ≤ old.spare_nodes → CanWrite mid n r e
-write-place o held apart good height spare =
-    can-write (owned-place o) good height o.changes.trades.graph (omega (arith, spare, o.changes.trades.balance.spare_nodes, o.changes.trades.nodes)) (held-now o held apart) (apart-child o held apart)
-
--- and the whole is a change at the parent
-pub changes-place : {T : Type 0} {old mid new : Heap T} {parent child r : ℕ} {spent gained : List ℕ} {n : ℕ} (o : OwnsChild old mid parent child r) (m : ℕ) → 1 + n ≤ m → Changes r mid new spent gained 0 n → Changes parent old new spent gained 0 m
-changes-place {parent = parent} o m most change = Changes-more 0 m (Changes-beside o.changes (Changes-path (down o parent path_start) change)) (omega arith) (omega (arith, most))
-
--- rows that came were made of spares, and none went
-pub makes-gained : {T : Type 0} {old new : Heap T} → Gains old new → MakesWhatCame old new
-makes-gained gains = record { stays = gains.stays; live = omega (arith, gains.makes.live); made = MakesJust-Gains gains }
-
-pub needs-gained : {T : Type 0} {old new : Heap T} → Gains old new → KeepsToNeed old new 0 0
-needs-gained gains = record { few_cells = omega (arith, gains.makes.spare_cells, gains.makes.cells); few_nodes = omega (arith, gains.makes.spare_nodes, gains.makes.nodes) }

@@ -2,7 +2,8 @@
 use Rattle.std.specs.Prelude.{◌≡◌, ℕ, ◌+◌, ◌-◌, ◌≤◌, [], ◌∷◌, ◌++◌, length, take, slice_index, slice_set}
 use Rattle.node_heap.specs.Heap.{Heap, form_at, live_count}
 use Rattle.node_heap.specs.Calls.{MakesWhatCame}
-use Rattle.node_heap.specs.Owner.{Owner, owned, EditsBy, WritesOnly, WritesOnlyLeft, KeepsAlone, alone}
+use Rattle.node_heap.specs.declared.owner.Owner.{Owner}
+use Rattle.node_heap.specs.Owner.{owned, EditsBy, WritesOnly, WritesOnlyLeft, KeepsAlone, alone}
 use Rattle.rrb_core.specs.Vector.{elements, height_at, IsVectorOf}
 use Rattle.rrb_core.specs.Push.{IsPushedRoot}
 use Rattle.edit_vec.specs.Path.{right_spine, set_path, push_path, pop_path}

@@ -3,7 +3,9 @@ use Rattle.std.specs.Prelude.{ℕ, ◌<◌, length, IsSome}
 use Rattle.node_heap.specs.Links.{count}
 use Rattle.node_heap.specs.Heap.{Heap, row_at, form_at, holds_at, IsGraph}
 use Rattle.node_heap.specs.Calls.{KeepsBelow}
-use Rattle.node_heap.specs.Owner.{Owner, by_hold, owned, holds_beside, KeepsBeside, IsOwner, WritesOnly, WritesOnlyLeft}
+use Rattle.node_heap.specs.declared.owner.Owner.{Owner}
+use Rattle.node_heap.specs.declared.owner.Owner.TheVariants.{Hold as by_hold}
+use Rattle.node_heap.specs.Owner.{owned, holds_beside, KeepsBeside, IsOwner, WritesOnly, WritesOnlyLeft}
 use Rattle.rrb_core.specs.Vector.{elements, IsGoodVector}
 use Rattle.edit_vec.specs.Path.{set_path, push_path, pop_path}
 

@@ -5,8 +5,12 @@ use Rattle.node_heap.specs.Forms.{Forms, links_in}
 use Rattle.node_heap.specs.Heap.{Heap, row_at, form_at, links_at, holds_at, owners_at, hold_count, cell_count, node_count, live_count, IsGraph, half_holds, most_holds}
 use Rattle.node_heap.specs.Calls.{Gains}
 use Rattle.node_heap.specs.InPlace.{child_at, Changes}
-use Rattle.node_heap.specs.Owner.{by_hold, by_place, EditsBy, alone, written, KeepsAlone}
+use Rattle.node_heap.specs.declared.owner.Owner.{Owner}
+use Rattle.node_heap.specs.declared.owner.Owner.TheVariants.{Hold as by_hold}
+use Rattle.node_heap.specs.Owner.{owned, EditsBy, alone, written, KeepsAlone}
+use Rattle.node_heap.specs.Root.{ChangesUp}
 use Rattle.node_heap.specs.declared.row.TheConstants.{MOST_HEIGHT}
+use Rattle.rrb_core.specs.declared.grow.TheConstants.{PUSH_NODES}
 use Rattle.rrb_core.specs.Seq.{seq_at, IsThick, IsWell}
 use Rattle.rrb_core.specs.Vector.{elements, height_at, HasSums, IsGoodVector, IsVectorOf}
 use Rattle.rrb_core.specs.Push.{last_in, IsPacked, IsPushed}
@@ -69,16 +73,16 @@ module _ {T : Type 0} where
     pub short : length (elements h root) + 1 < 2 ^ 32
     pub held : 1 ≤ holds_at h element
     pub few : hold_count h < most_holds
-    pub spare : 9 ≤ h.spare_nodes
+    pub spare : PUSH_NODES ≤ h.spare_nodes
 
   -- the root of height n + 1 is over a row of height n and one over the element alone
   abbrev pub IsRootOver : Heap T → ℕ → ℕ → ℕ → ℕ → Type 0
   IsRootOver h n root top element = (child : ℕ) × (links_at h top ≡ root ∷ child ∷ []) × (seq_at (form_at h) n child ≡ element ∷ [])
 
-  -- the vector that is the child at an index of the parent has the element after its last
-  pub record PushesChild (old new : Heap T) (parent index element : ℕ) : Type 0 where
-    pub pushes : PushesElement (by_place parent index) old new (child_at new parent index) element
-    pub changes : Changes parent old new (element ∷ []) [] 0 (height_at old (child_at old parent index) + 2)
+  -- the vector that is owned so has the element after its last, and this root
+  pub record PushesRoot (owner : Owner) (old new : Heap T) (root element : ℕ) : Type 0 where
+    pub pushes : PushesElement owner old new root element
+    pub up : ChangesUp owner old new root (element ∷ []) [] 0 (height_at old (owned old owner) + 2)
     pub gains : Gains old new
 
   -- the rows and the spares of each kind are together as many as before

@@ -2,7 +2,8 @@
 ghost use Rattle.std.specs.Prelude.{◌≡◌, ◌↔◌, ℕ, ◌<◌, ◌≤◌, [], IfOk, IsOk, OnErr, IfErr};
 ghost use Rattle.node_heap.specs.Heap.{row_at, holds_at, owners_at, hold_count, HasSpares, half_holds};
 ghost use Rattle.node_heap.specs.Calls.{KeepsOwners, Extends, KeepsToNeed, MakesWhatCame};
-ghost use Rattle.node_heap.specs.Owner.{by_hold, EditsBy};
+ghost use Rattle.node_heap.specs.declared.owner.Owner.TheVariants.{Hold as by_hold};
+ghost use Rattle.node_heap.specs.Owner.{EditsBy};
 ghost use Rattle.rrb_core.specs.Vector.{elements, IsGoodVector, IsVectorOf};
 
 use node_heap::{Heap, Link};

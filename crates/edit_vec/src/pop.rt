@@ -2,7 +2,7 @@
 ghost use Rattle.std.specs.Prelude.{◌≡◌, ◌↔◌, ℕ, suc, ◌^◌, ◌<◌, ◌≤◌, [], length, IfOk, IsOk, OnErr, IfSome, IsTrue, Ok, None};
 ghost use Rattle.node_heap.specs.Heap.{form_at, links_at, holds_at, hold_count, HasSpares, IsGraph, half_holds};
 ghost use Rattle.node_heap.specs.Calls.{KeepsToNeed};
-ghost use Rattle.node_heap.specs.Owner.{by_hold};
+ghost use Rattle.node_heap.specs.declared.owner.Owner.TheVariants.{Hold as by_hold};
 ghost use Rattle.rrb_core.specs.Seq.{seq_at, IsWell};
 ghost use Rattle.rrb_core.specs.Vector.{elements, height_at, HasSums, IsGoodVector};
 ghost use Rattle.rrb_core.specs.Push.{last_in};
@@ -13,10 +13,10 @@ use crate::edit::FlexEdit;
 use crate::sums::{put_sums, shrink_sums, sums_without_last};
 use elem_core::NoMemory;
 use node_heap::{Heap, Link, MOST_HEIGHT};
-use rrb_core::{Flex, height_of, only_element, size};
+use rrb_core::{Flex, SET_NODES, height_of, only_element, size};
 
 /// The most nodes that a pop makes: one for each height.
-pub const POP_NODES: usize = MOST_HEIGHT as usize + 1;
+pub const POP_NODES: usize = SET_NODES;
 
 impl FlexEdit {
     /// Takes the last element out and gives it with a hold, and None where the vector is empty. Of the rows of the right spine
@@ -30,9 +30,9 @@ impl FlexEdit {
         ensures pops { IfOk result (λ last. IfSome last (λ given. PopsElement (by_hold self.old) heap.old heap.new self.new given)) }
         ensures none { (result ≡ Ok None) ↔ (elements heap.old self.old ≡ []) }
         ensures nothing { result ≡ Ok None → (heap.new ≡ heap.old) × (self.new ≡ self.old) }
-        ensures spares { IfOk result (λ _. KeepsToNeed heap.old heap.new 0 8) }
+        ensures spares { IfOk result (λ _. KeepsToNeed heap.old heap.new 0 POP_NODES) }
         ensures refused { OnErr result ((heap.new ≡ heap.old) × (self.new ≡ self.old)) }
-        ensures ample { HasSpares heap.old 0 8 → IsOk result }
+        ensures ample { HasSpares heap.old 0 POP_NODES → IsOk result }
     {
         if self.view().is_empty(heap) {
             return Ok(None);
@@ -52,7 +52,7 @@ pub fn pop_held<T: Drop>(heap: &mut Heap<T>, vector: Flex) -> (Flex, Link)
     requires held { 1 ≤ holds_at heap.old vector }
     requires few { hold_count heap.old < half_holds }
     requires some { 1 ≤ length (elements heap.old vector) }
-    requires spare { HasSpares heap.old 0 8 }
+    requires spare { HasSpares heap.old 0 POP_NODES }
     ensures pops { PopsElement (by_hold vector) heap.old heap.new result.0 result.1 }
     ensures spares { KeepsToNeed heap.old heap.new 0 0 }
 {

@@ -2,18 +2,20 @@
 ghost use Rattle.std.specs.Prelude.{◌≡◌, ℕ, suc, ◌+◌, ◌-◌, ◌^◌, ◌<◌, ◌≤◌, ◌≢◌, ◌↔◌, [], ◌∷◌, ◌++◌, length, None, IfOk, IfSome, IfNone, OnErr, Err};
 ghost use Rattle.node_heap.specs.Links.{Reaches};
 ghost use Rattle.node_heap.specs.Heap.{row_at, form_at, links_at, holds_at, owners_at, hold_count, HasSpares, half_holds, most_holds};
-ghost use Rattle.node_heap.specs.Calls.{KeepsToNeed, KeepsOldOwners, Gains, Builds, HasHolds};
+ghost use Rattle.node_heap.specs.Calls.{KeepsToNeed, KeepsOldOwners, Builds, HasHolds};
 ghost use Rattle.node_heap.specs.InPlace.{child_at, Changes};
-ghost use Rattle.node_heap.specs.Owner.{by_hold, by_place};
+ghost use Rattle.node_heap.specs.declared.owner.Owner.TheVariants.{Hold as by_hold, Child as by_place};
+ghost use Rattle.node_heap.specs.Owner.{owned, held_by};
+ghost use Rattle.node_heap.specs.Root.{CanOwn, IsApart, ChangesUp};
 ghost use Rattle.rrb_core.specs.Seq.{seq_at, IsWell};
 ghost use Rattle.rrb_core.specs.Vector.{elements, height_at, IsGoodVector, IsVectorOf};
 ghost use Rattle.rrb_core.specs.Push.{last_in, IsPacked};
 ghost use Rattle.edit_vec.specs.Edit.{PushesElement};
-ghost use Rattle.edit_vec.specs.Steps.{CanPushRoot, CanWrite, HasRoomAt, IsRootOver, PushesChild, PushesIn};
+ghost use Rattle.edit_vec.specs.Steps.{CanPushRoot, CanWrite, HasRoomAt, IsRootOver, PushesRoot, PushesIn};
 
 use crate::edit::FlexEdit;
 use crate::sums::{grow_sums, put_sums, sums_beside};
-use node_heap::{Heap, Link};
+use node_heap::{Heap, Link, Owner, own_root, root_of};
 use rrb_core::{Flex, FlexRef, PUSH_NODES, PushFault, ROW_LINKS, height_of, inner_over, spine};
 
 impl FlexEdit {
@@ -27,17 +29,18 @@ impl FlexEdit {
         requires held { HasHolds heap.old (self.old ∷ element ∷ []) }
         requires few { hold_count heap.old < half_holds }
         ensures pushes { IfOk result (λ _. PushesElement (by_hold self.old) heap.old heap.new self.new element) }
-        ensures spares { IfOk result (λ _. KeepsToNeed heap.old heap.new 0 9) }
+        ensures spares { IfOk result (λ _. KeepsToNeed heap.old heap.new 0 PUSH_NODES) }
         ensures refused { OnErr result ((heap.new ≡ heap.old) × (self.new ≡ self.old)) }
         ensures long { (result ≡ Err PushFault.Long) ↔ (length (elements heap.old self.old) ≡ 2 ^ 32 - 1) }
-        ensures ample { HasSpares heap.old 0 9 → result ≢ Err PushFault.Memory }
+        ensures ample { HasSpares heap.old 0 PUSH_NODES → result ≢ Err PushFault.Memory }
     {
-        if self.view().is_longest(heap) {
-            return Err(PushFault::Long);
+        match push_by(heap, &Owner::Hold(self.root), element) {
+            Ok(root) => {
+                self.root = root;
+                Ok(())
+            }
+            Err(fault) => Err(fault),
         }
-        heap.reserve(0, PUSH_NODES)?;
-        self.root = push_root(heap, self.root, element);
-        Ok(())
     }
 }
 
@@ -57,18 +60,36 @@ pub fn push_at<T>(
     requires few { hold_count heap.old < half_holds }
     ensures pushes { IfOk result (λ _. PushesElement (by_place parent child) heap.old heap.new (child_at heap.new parent child) element) }
     ensures changes { IfOk result (λ _. Changes parent heap.old heap.new (element ∷ []) [] 0 (height_at heap.old (child_at heap.old parent child) + 2)) }
-    ensures spares { IfOk result (λ _. KeepsToNeed heap.old heap.new 0 9) }
+    ensures spares { IfOk result (λ _. KeepsToNeed heap.old heap.new 0 PUSH_NODES) }
     ensures refused { OnErr result (heap.new ≡ heap.old) }
     ensures long { (result ≡ Err PushFault.Long) ↔ (length (elements heap.old (child_at heap.old parent child)) ≡ 2 ^ 32 - 1) }
-    ensures ample { HasSpares heap.old 0 9 → result ≢ Err PushFault.Memory }
+    ensures ample { HasSpares heap.old 0 PUSH_NODES → result ≢ Err PushFault.Memory }
 {
-    let root = heap.links(parent)[child];
-    if FlexRef::at(root).is_longest(heap) {
+    match push_by(heap, &Owner::Child(parent, child), element) {
+        Ok(_) => Ok(()),
+        Err(fault) => Err(fault),
+    }
+}
+
+// The same for a vector whose root is owned so, and gives its root then.
+fn push_by<T>(heap: &mut Heap<T>, owner: &Owner, element: Link) -> Result<Link, PushFault>
+    requires owner { CanOwn heap.old owner.now }
+    requires good { IsGoodVector heap.old (owned heap.old owner.now) }
+    requires held { HasHolds heap.old (held_by owner.now (owned heap.old owner.now) ++ element ∷ []) }
+    requires apart { IsApart heap.old owner.now element }
+    requires few { hold_count heap.old < half_holds }
+    ensures pushes { IfOk result (λ root. PushesElement owner.now heap.old heap.new root element) }
+    ensures up { IfOk result (λ root. ChangesUp owner.now heap.old heap.new root (element ∷ []) [] 0 (height_at heap.old (owned heap.old owner.now) + 2)) }
+    ensures spares { IfOk result (λ _. KeepsToNeed heap.old heap.new 0 PUSH_NODES) }
+    ensures refused { OnErr result (heap.new ≡ heap.old) }
+    ensures long { (result ≡ Err PushFault.Long) ↔ (length (elements heap.old (owned heap.old owner.now)) ≡ 2 ^ 32 - 1) }
+    ensures ample { HasSpares heap.old 0 PUSH_NODES → result ≢ Err PushFault.Memory }
+{
+    if FlexRef::at(root_of(heap, owner)).is_longest(heap) {
         return Err(PushFault::Long);
     }
     heap.reserve(0, PUSH_NODES)?;
-    push_there(heap, parent, child, element);
-    Ok(())
+    Ok(push_root(heap, owner, element))
 }
 
 /// The vector with the element after its last, where it has fewer than 2^32 - 1 and there are `PUSH_NODES` spare nodes: it tests
@@ -79,41 +100,13 @@ pub fn push_held<T>(heap: &mut Heap<T>, vector: Flex, element: Link) -> Flex
     requires held { HasHolds heap.old (vector ∷ element ∷ []) }
     requires few { hold_count heap.old < half_holds }
     requires short { length (elements heap.old vector) + 1 < 2 ^ 32 }
-    requires spare { HasSpares heap.old 0 9 }
+    requires spare { HasSpares heap.old 0 PUSH_NODES }
     ensures pushes { PushesElement (by_hold vector) heap.old heap.new result element }
     ensures spares { KeepsToNeed heap.old heap.new 0 0 }
 {
     heap.rows_form_a_graph();
-    let root = push_root(heap, vector.into_root(), element);
+    let root = push_root(heap, &Owner::Hold(vector.into_root()), element);
     Flex::from_root(root)
-}
-
-// The same by the root, whose hold is spent, and gives the new one, held.
-fn push_root<T>(heap: &mut Heap<T>, root: Link, element: Link) -> Link
-    requires root { CanPushRoot heap.old root element }
-    requires held { HasHolds heap.old (root ∷ element ∷ []) }
-    ensures pushes { PushesElement (by_hold root) heap.old heap.new result element }
-    ensures gains { Gains heap.old heap.new }
-{
-    let height = height_of(heap, root);
-    match lowest_with_room(heap, root, height) {
-        Some(lowest) => push_own(heap, root, height, lowest, element),
-        None => root_beside(heap, root, height, element),
-    }
-}
-
-// The same where the right spine has room at the height `lowest`.
-fn push_own<T>(heap: &mut Heap<T>, root: Link, height: u8, lowest: u8, element: Link) -> Link
-    requires root { CanPushRoot heap.old root element }
-    requires held { HasHolds heap.old (root ∷ element ∷ []) }
-    requires height { height ≡ height_at heap.old root }
-    requires room { HasRoomAt (form_at heap.old) height lowest root }
-    ensures pushes { PushesElement (by_hold root) heap.old heap.new result element }
-    ensures gains { Gains heap.old heap.new }
-{
-    let own = heap.own(root);
-    push_in(heap, own, height, lowest, element);
-    own
 }
 
 /// `push_at` where the vector has fewer than 2^32 - 1 elements and there are `PUSH_NODES` spare nodes: it tests and reserves
@@ -126,42 +119,72 @@ pub fn push_there<T>(heap: &mut Heap<T>, parent: Link, child: usize, element: Li
     requires apart { ¬ Reaches (links_at heap.old) element parent }
     requires few { hold_count heap.old < half_holds }
     requires short { length (elements heap.old (child_at heap.old parent child)) + 1 < 2 ^ 32 }
-    requires spare { HasSpares heap.old 0 9 }
+    requires spare { HasSpares heap.old 0 PUSH_NODES }
     ensures pushes { PushesElement (by_place parent child) heap.old heap.new (child_at heap.new parent child) element }
     ensures changes { Changes parent heap.old heap.new (element ∷ []) [] 0 (height_at heap.old (child_at heap.old parent child) + 2) }
     ensures spares { KeepsToNeed heap.old heap.new 0 0 }
 {
-    let root = heap.links(parent)[child];
+    heap.rows_form_a_graph();
+    let _ = push_root(heap, &Owner::Child(parent, child), element);
+}
+
+// The same where the vector has room for an element and there are spares.
+fn push_root<T>(heap: &mut Heap<T>, owner: &Owner, element: Link) -> Link
+    requires owner { CanOwn heap.old owner.now }
+    requires root { CanPushRoot heap.old (owned heap.old owner.now) element }
+    requires held { HasHolds heap.old (held_by owner.now (owned heap.old owner.now) ++ element ∷ []) }
+    requires apart { IsApart heap.old owner.now element }
+    requires few { hold_count heap.old < half_holds }
+    ensures { PushesRoot owner.now heap.old heap.new result element }
+{
+    let root = root_of(heap, owner);
     let height = height_of(heap, root);
     match lowest_with_room(heap, root, height) {
-        Some(lowest) => push_own_child(heap, parent, child, height, lowest, element),
-        None => push_over_child(heap, parent, child, height, element),
+        Some(lowest) => push_own(heap, owner, height, lowest, element),
+        None => push_over(heap, owner, height, element),
     }
 }
 
 // The same where the right spine has room at the height `lowest`.
-fn push_own_child<T>(
+fn push_own<T>(heap: &mut Heap<T>, owner: &Owner, height: u8, lowest: u8, element: Link) -> Link
+    requires owner { CanOwn heap.old owner.now }
+    requires root { CanPushRoot heap.old (owned heap.old owner.now) element }
+    requires held { HasHolds heap.old (held_by owner.now (owned heap.old owner.now) ++ element ∷ []) }
+    requires apart { IsApart heap.old owner.now element }
+    requires height { height ≡ height_at heap.old (owned heap.old owner.now) }
+    requires room { HasRoomAt (form_at heap.old) height lowest (owned heap.old owner.now) }
+    ensures { PushesRoot owner.now heap.old heap.new result element }
+{
+    let own = own_root(heap, owner);
+    push_in(heap, own, height, lowest, element);
+    own
+}
+
+// The same where the root is packed: a root over it takes its place.
+fn push_over<T>(heap: &mut Heap<T>, owner: &Owner, height: u8, element: Link) -> Link
+    requires owner { CanOwn heap.old owner.now }
+    requires root { CanPushRoot heap.old (owned heap.old owner.now) element }
+    requires held { HasHolds heap.old (held_by owner.now (owned heap.old owner.now) ++ element ∷ []) }
+    requires apart { IsApart heap.old owner.now element }
+    requires few { hold_count heap.old < half_holds }
+    requires height { height ≡ height_at heap.old (owned heap.old owner.now) }
+    requires packed { IsPacked (form_at heap.old) height (owned heap.old owner.now) }
+    ensures { PushesRoot owner.now heap.old heap.new result element }
+{
+    match *owner {
+        Owner::Hold(root) => root_beside(heap, root, height, element),
+        Owner::Child(parent, child) => push_over_child(heap, parent, child, height, element),
+    }
+}
+
+// The same where the root is a row's child.
+fn push_over_child<T>(
     heap: &mut Heap<T>,
     parent: Link,
     child: usize,
     height: u8,
-    lowest: u8,
     element: Link,
-)
-    requires sole { owners_at heap.old parent ≡ 1 }
-    requires child { child < length (links_at heap.old parent) }
-    requires root { CanPushRoot heap.old (child_at heap.old parent child) element }
-    requires apart { ¬ Reaches (links_at heap.old) element parent }
-    requires height { height ≡ height_at heap.old (child_at heap.old parent child) }
-    requires room { HasRoomAt (form_at heap.old) height lowest (child_at heap.old parent child) }
-    ensures { PushesChild heap.old heap.new parent child element }
-{
-    let own = heap.own_child(parent, child);
-    push_in(heap, own, height, lowest, element);
-}
-
-// The same where the child is packed: a root over it takes its place.
-fn push_over_child<T>(heap: &mut Heap<T>, parent: Link, child: usize, height: u8, element: Link)
+) -> Link
     requires few { hold_count heap.old < half_holds }
     requires sole { owners_at heap.old parent ≡ 1 }
     requires child { child < length (links_at heap.old parent) }
@@ -169,12 +192,13 @@ fn push_over_child<T>(heap: &mut Heap<T>, parent: Link, child: usize, height: u8
     requires apart { ¬ Reaches (links_at heap.old) element parent }
     requires height { height ≡ height_at heap.old (child_at heap.old parent child) }
     requires packed { IsPacked (form_at heap.old) height (child_at heap.old parent child) }
-    ensures { PushesChild heap.old heap.new parent child element }
+    ensures { PushesRoot (by_place parent child) heap.old heap.new result element }
 {
     // The root's place becomes a hold, which the new root spends.
     let root = heap.remove_link(parent, child);
     let over = root_beside(heap, root, height, element);
     heap.insert_link(parent, child, over);
+    over
 }
 
 // The height of the lowest row of the right spine with room, or None where the row is packed: one pass down.

@@ -1,17 +1,19 @@
 //! An element put in the place of another.
-ghost use Rattle.std.specs.Prelude.{◌≡◌, ◌≢◌, ◌↔◌, ℕ, suc, ◌+◌, ◌<◌, ◌≤◌, [], ◌∷◌, length, IfOk, OnErr, Err};
+ghost use Rattle.std.specs.Prelude.{◌≡◌, ◌≢◌, ◌↔◌, ℕ, suc, ◌+◌, ◌<◌, ◌≤◌, [], ◌∷◌, ◌++◌, length, IfOk, OnErr, Err};
 ghost use Rattle.node_heap.specs.Links.{Reaches};
 ghost use Rattle.node_heap.specs.Heap.{form_at, links_at, holds_at, owners_at, hold_count, HasSpares, half_holds};
-ghost use Rattle.node_heap.specs.Calls.{KeepsToNeed, HasHolds};
+ghost use Rattle.node_heap.specs.Calls.{Gains, KeepsToNeed, HasHolds};
 ghost use Rattle.node_heap.specs.InPlace.{child_at, Changes};
-ghost use Rattle.node_heap.specs.Owner.{by_hold, by_place};
+ghost use Rattle.node_heap.specs.declared.owner.Owner.TheVariants.{Hold as by_hold, Child as by_place};
+ghost use Rattle.node_heap.specs.Owner.{owned, held_by};
+ghost use Rattle.node_heap.specs.Root.{CanOwn, IsApart, ChangesUp};
 ghost use Rattle.rrb_core.specs.Seq.{seq_at};
 ghost use Rattle.rrb_core.specs.Vector.{elements, height_at, IsGoodVector};
 ghost use Rattle.edit_vec.specs.Edit.{SetsElement};
 ghost use Rattle.edit_vec.specs.Steps.{CanWrite, SetsIn};
 
 use crate::edit::FlexEdit;
-use node_heap::{Heap, Link};
+use node_heap::{Heap, Link, Owner, own_root, root_of};
 use rrb_core::{FlexRef, SET_NODES, SetFault, height_of, spot_of};
 
 impl FlexEdit {
@@ -29,19 +31,18 @@ impl FlexEdit {
         requires held { HasHolds heap.old (self.old ∷ element ∷ []) }
         requires few { hold_count heap.old < half_holds }
         ensures sets { IfOk result (λ given. SetsElement (by_hold self.old) heap.old heap.new self.new index element given) }
-        ensures spares { IfOk result (λ _. KeepsToNeed heap.old heap.new 0 8) }
+        ensures spares { IfOk result (λ _. KeepsToNeed heap.old heap.new 0 SET_NODES) }
         ensures refused { OnErr result ((heap.new ≡ heap.old) × (self.new ≡ self.old)) }
         ensures range { (result ≡ Err SetFault.Range) ↔ (length (elements heap.old self.old) ≤ index) }
-        ensures ample { HasSpares heap.old 0 8 → result ≢ Err SetFault.Memory }
+        ensures ample { HasSpares heap.old 0 SET_NODES → result ≢ Err SetFault.Memory }
     {
-        if self.view().is_past(heap, index) {
-            return Err(SetFault::Range);
+        match set_by(heap, &Owner::Hold(self.root), index, element) {
+            Ok(did) => {
+                self.root = did.0;
+                Ok(did.1)
+            }
+            Err(fault) => Err(fault),
         }
-        heap.reserve(0, SET_NODES)?;
-        let height = height_of(heap, self.root);
-        self.root = heap.own(self.root);
-        let given = set_in(heap, self.root, height, index, element);
-        Ok(given)
     }
 }
 
@@ -62,22 +63,44 @@ pub fn set_at<T>(
     requires few { hold_count heap.old < half_holds }
     ensures sets { IfOk result (λ given. SetsElement (by_place parent child) heap.old heap.new (child_at heap.new parent child) index element given) }
     ensures changes { IfOk result (λ given. Changes parent heap.old heap.new (element ∷ []) (given ∷ []) 0 (height_at heap.old (child_at heap.old parent child) + 1)) }
-    ensures spares { IfOk result (λ _. KeepsToNeed heap.old heap.new 0 8) }
+    ensures spares { IfOk result (λ _. KeepsToNeed heap.old heap.new 0 SET_NODES) }
     ensures refused { OnErr result (heap.new ≡ heap.old) }
     ensures range { (result ≡ Err SetFault.Range) ↔ (length (elements heap.old (child_at heap.old parent child)) ≤ index) }
-    ensures ample { HasSpares heap.old 0 8 → result ≢ Err SetFault.Memory }
+    ensures ample { HasSpares heap.old 0 SET_NODES → result ≢ Err SetFault.Memory }
 {
-    let root = heap.links(parent)[child];
-    if FlexRef::at(root).is_past(heap, index) {
+    match set_by(heap, &Owner::Child(parent, child), index, element) {
+        Ok(did) => Ok(did.1),
+        Err(fault) => Err(fault),
+    }
+}
+
+// The same for a vector whose root is owned so, and gives its root then, and the element that stood there.
+fn set_by<T>(
+    heap: &mut Heap<T>,
+    owner: &Owner,
+    index: u32,
+    element: Link,
+) -> Result<(Link, Link), SetFault>
+    requires owner { CanOwn heap.old owner.now }
+    requires good { IsGoodVector heap.old (owned heap.old owner.now) }
+    requires held { HasHolds heap.old (held_by owner.now (owned heap.old owner.now) ++ element ∷ []) }
+    requires apart { IsApart heap.old owner.now element }
+    ensures sets { IfOk result (λ did. SetsElement owner.now heap.old heap.new did.0 index element did.1) }
+    ensures up { IfOk result (λ did. ChangesUp owner.now heap.old heap.new did.0 (element ∷ []) (did.1 ∷ []) 0 (height_at heap.old (owned heap.old owner.now) + 1)) }
+    ensures spares { IfOk result (λ _. KeepsToNeed heap.old heap.new 0 SET_NODES) }
+    ensures refused { OnErr result (heap.new ≡ heap.old) }
+    ensures range { (result ≡ Err SetFault.Range) ↔ (length (elements heap.old (owned heap.old owner.now)) ≤ index) }
+    ensures ample { HasSpares heap.old 0 SET_NODES → result ≢ Err SetFault.Memory }
+{
+    if FlexRef::at(root_of(heap, owner)).is_past(heap, index) {
         return Err(SetFault::Range);
     }
     heap.reserve(0, SET_NODES)?;
-    let given = set_there(heap, parent, child, index, element);
-    Ok(given)
+    Ok(set_root(heap, owner, index, element))
 }
 
-/// The same where the index is below the length and there are `SET_NODES` spare nodes: it tests and reserves nothing, and
-/// refuses nothing.
+/// `set_at` where the index is below the length and there are `SET_NODES` spare nodes: it tests and reserves nothing, and refuses
+/// nothing.
 pub fn set_there<T>(
     heap: &mut Heap<T>,
     parent: Link,
@@ -92,15 +115,32 @@ pub fn set_there<T>(
     requires apart { ¬ Reaches (links_at heap.old) element parent }
     requires few { hold_count heap.old < half_holds }
     requires inside { index < length (elements heap.old (child_at heap.old parent child)) }
-    requires spare { HasSpares heap.old 0 8 }
+    requires spare { HasSpares heap.old 0 SET_NODES }
     ensures sets { SetsElement (by_place parent child) heap.old heap.new (child_at heap.new parent child) index element result }
     ensures changes { Changes parent heap.old heap.new (element ∷ []) (result ∷ []) 0 (height_at heap.old (child_at heap.old parent child) + 1) }
     ensures spares { KeepsToNeed heap.old heap.new 0 0 }
 {
-    let root = heap.links(parent)[child];
+    let did = set_root(heap, &Owner::Child(parent, child), index, element);
+    did.1
+}
+
+// The same where the index is below the length and there are spares.
+fn set_root<T>(heap: &mut Heap<T>, owner: &Owner, index: u32, element: Link) -> (Link, Link)
+    requires owner { CanOwn heap.old owner.now }
+    requires good { IsGoodVector heap.old (owned heap.old owner.now) }
+    requires held { HasHolds heap.old (held_by owner.now (owned heap.old owner.now) ++ element ∷ []) }
+    requires apart { IsApart heap.old owner.now element }
+    requires inside { index < length (elements heap.old (owned heap.old owner.now)) }
+    requires spare { HasSpares heap.old 0 SET_NODES }
+    ensures sets { SetsElement owner.now heap.old heap.new result.0 index element result.1 }
+    ensures up { ChangesUp owner.now heap.old heap.new result.0 (element ∷ []) (result.1 ∷ []) 0 (height_at heap.old (owned heap.old owner.now) + 1) }
+    ensures gains { Gains heap.old heap.new }
+{
+    let root = root_of(heap, owner);
     let height = height_of(heap, root);
-    let own = heap.own_child(parent, child);
-    set_in(heap, own, height, index, element)
+    let own = own_root(heap, owner);
+    let given = set_in(heap, own, height, index, element);
+    (own, given)
 }
 
 // Puts the element at the index of a row with one owner, and gives the one that stood there.

@@ -268,7 +268,6 @@ fn stats<K: Sink>(space: &Space, page: &mut Page, sink: &mut K) -> Result<(), Fa
     ensures { Replies K.Sink sink.old sink.new result
         (λ reply. ObeysAlone stats_command space.now reply space.now) }
 {
-    space.stands();
     send_number(space.rows() as u64, page, sink)
 }
 
@@ -276,7 +275,6 @@ fn made<K: Sink>(space: &Space, page: &mut Page, sink: &mut K) -> Result<(), Fai
     ensures { Replies K.Sink sink.old sink.new result
         (λ reply. ObeysAlone made_command space.now reply space.now) }
 {
-    space.stands();
     send_number(space.made(), page, sink)
 }
 

@@ -10,12 +10,13 @@ use Rattle.node_heap.specs.Links.{count, Reaches, here, below}
 use Rattle.node_heap.specs.Forms.{cell, form_of}
 use Rattle.node_heap.specs.Heap.{Heap, row_at, form_at, links_at, holds_at, hold_count, one_at, IsGraph}
 use Rattle.node_heap.specs.Calls.{HasHolds, KeepsBelow, Unchanged, Extends, Adds}
-use Rattle.node_heap.specs.Owner.{by_hold, EditsBy}
+use Rattle.node_heap.specs.declared.owner.Owner.TheVariants.{Hold as by_hold}
+use Rattle.node_heap.specs.Owner.{EditsBy}
 use Rattle.node_heap.proofs.Counts.{one_at-flip, test_same, test_other}
 use Rattle.node_heap.proofs.Edited.{count-at}
 use Rattle.node_heap.proofs.BuildLemmas.{count-cons, count-one, count-append}
 use Rattle.champ_kinds.specs.Root.{Root}
-use Rattle.champ_kinds.specs.Binding.{Binding, bind, binds, unbind}
+use Rattle.champ_kinds.specs.Binding.{Binding, bind, unbind}
 use Rattle.champ_kinds.specs.Kinds.{IsMapOf}
 use Rattle.champ_kinds.proofs.StayLemmas.{container-stays, map-reaches, map-live}
 use Rattle.same_value.specs.Cells.{IsCellLink}

@@ -1,19 +1,20 @@
 -- What stands at roots stands wherever every row stays, and beside what a call made.
-use Rattle.std.proofs.Common.{◌≡◌, ◌+◌, ◌<◌, ◌≤◌, ℕ, List, [], ◌∷◌, ◌++◌, length, Result, Ok, Err, ap, sym, subst, arith, length-append}
+use Rattle.std.proofs.Common.{◌≡◌, ◌+◌, ℕ, List, [], ◌∷◌, ◌++◌, Result, Ok, Err, ap, sym, subst, arith, length-append}
 use Rattle.std.specs.Prelude.{IfOk, IsOk, Some, option_map}
-use Rattle.std.specs.List.{All}
 use Rattle.std.specs.declared.cmp.Ordering.{Ordering}
-use Rattle.std.proofs.lemmas.List.Elements.{All-weaker, All-push}
+use Rattle.std.proofs.lemmas.List.Elements.{All-weaker, All-push, All-append, All-filter}
 use Rattle.node_heap.specs.Forms.{cell, form_of}
 use Rattle.node_heap.specs.Heap.{Heap, row_at, form_at, holds_at, hold_count, one_at}
 use Rattle.node_heap.specs.Calls.{Builds, Extends, SameRows}
 use Rattle.node_heap.proofs.BuildLemmas.{count-one}
 use Rattle.champ_chain.proofs.FrameLemmas.{forms-kept}
 use Rattle.champ_kinds.specs.Binding.{Binding}
-use Rattle.champ_kinds.specs.Laws.{KeepsContainers}
+use Rattle.champ_kinds.specs.Root.{Root}
+use Rattle.champ_kinds.specs.Kinds.{IsMapOf}
 use Rattle.champ_kinds.proofs.StayLemmas.{containers-extended}
 use Rattle.champ_trie.proofs.LeftLemmas.{KeepsTries-Extends}
 use Rattle.same_value.specs.Cells.{IsCellLink}
+use Rattle.set_merge.specs.Merge.{map_union}
 use Rattle.map_tests.specs.Stands.{IsSomeTrie, IsCellMap, Keeps, Holds}
 
 module _ {T : Type 0} {old new : Heap T} (extends : Extends old new) where
@@ -28,6 +29,19 @@ module _ {T : Type 0} {old new : Heap T} (extends : Extends old new) where
       values = All-weaker (λ (b : Binding T). IsCellLink (form_at old) b.value) (λ (b : Binding T). IsCellLink (form_at new) b.value) (λ b cell. cell-stays b.value cell) is.0 is.1.values;
     },
   )
+
+  -- the union of two maps of cells is one
+  pub cells-united : (cmp : T → T → Ordering) (code : T → ℕ) {a b r : Root} (first : IsCellMap cmp code old a) (second : IsCellMap cmp code old b) → IsMapOf cmp code new r (map_union cmp first.0 second.0) → IsCellMap cmp code new r
+  cells-united cmp code first second made =
+      let WasCell = λ (b : Binding T). IsCellLink (form_at old) b.value in
+      let IsCell = λ (b : Binding T). IsCellLink (form_at new) b.value in
+      let stays = λ (b : Binding T) (cell : WasCell b). cell-stays b.value cell in (
+        map_union cmp first.0 second.0,
+        record {
+          map = made;
+          values = All-append IsCell first.0 _ (All-weaker WasCell IsCell stays first.0 first.1.values) (All-filter _ IsCell second.0 (All-weaker WasCell IsCell stays second.0 second.1.values));
+        },
+      )
 
   pub tries-stay : (cmp : T → T → Ordering) (code : T → ℕ) (bits : ℕ) → Keeps (IsSomeTrie cmp code bits) old new
   tries-stay cmp code bits l is = (is.0, KeepsTries-Extends old new extends cmp _ l is.0 is.1)

@@ -51,6 +51,26 @@ impl Trial {
         let copy = self.editing.keep(rt);
         self.copies.push((copy, self.pure)).expect(rt, "memory");
     }
+
+    // So many edits by the numbers of the generator.
+    fn edit_all(&mut self, rt: &impl Abort, count: u32) {
+        let mut x = 1;
+        for step in 0..count {
+            x = stepped(x);
+            let key = ((x >> 32) & 4_194_303) % 64;
+            self.edit(rt, key as usize, x >> 60 < 10, Num(step));
+            if step % 10 == 0 {
+                self.keep(rt);
+            }
+        }
+    }
+
+    // Each copy is still the map by pure calls of its time.
+    fn copies_stay(&self, rt: &impl Abort) {
+        for (copy, pure) in self.copies.as_slice() {
+            assert!(rt; self.editing.are_same(rt, *copy, *pure));
+        }
+    }
 }
 
 // So many edits by the numbers of the generator, in a map by so many bits.
@@ -61,25 +81,15 @@ fn edits_as_pure_calls(rt: &impl Abort, alloc: Global, bits: u32, count: u32) {
         values: [None; 64],
         copies: Vec::new(alloc),
     };
-    let mut x = 1;
-    for step in 0..count {
-        x = stepped(x);
-        let key = ((x >> 32) & 4_194_303) % 64;
-        trial.edit(rt, key as usize, x >> 60 < 10, Num(step));
-        if step % 10 == 0 {
-            trial.keep(rt);
-        }
-    }
+    trial.edit_all(rt, count);
+    trial.copies_stay(rt);
     let Trial {
         editing,
         pure: _,
         values: _,
-        copies,
+        copies: _copies,
     } = trial;
-    for (copy, pure) in copies.as_slice() {
-        assert!(rt; editing.are_same(rt, *copy, *pure));
-    }
-    assert_eq!(rt; editing.close(), 0);
+    assert!(rt; editing.close() == 0);
 }
 
 #[test]
@@ -110,42 +120,52 @@ fn insert_numbers(rt: &impl Abort, editing: &mut MapEditing<Num>, from: u32, to:
     }
 }
 
-// A key and each row on the way to it are made once: a map that nothing else holds makes no row for a present key but the cell of
-// the new value, and beside a kept copy the root, and the rows below it to the pair.
+// A map that nothing else holds makes no row for a present key but the cell of the new value.
+fn makes_cells_alone(rt: &impl Abort, editing: &mut MapEditing<Num>) {
+    let made = editing.made();
+    assert!(rt; editing.insert(rt, Num(1), Num(11), Some(Num(10))));
+    assert_eq!(rt; editing.made().wrapping_sub(made), 1);
+    assert!(rt; editing.own_value(rt, &Num(1), Some(Num(11))));
+    assert!(rt; editing.insert(rt, Num(2), Num(22), Some(Num(20))));
+    assert_eq!(rt; editing.made().wrapping_sub(made), 2);
+}
+
+// Beside a kept copy, which makes no row itself, the root and the pair are copied, and then they are alone.
+fn copies_once(rt: &impl Abort, editing: &mut MapEditing<Num>, made: u64) {
+    assert!(rt; editing.own_value(rt, &Num(1), Some(Num(11))));
+    assert_eq!(rt; editing.made().wrapping_sub(made), 2);
+    assert!(rt; editing.own_value(rt, &Num(1), Some(Num(11))));
+    assert!(rt; editing.own_value(rt, &Num(3), None));
+    assert!(rt; editing.remove(rt, &Num(3), None));
+    assert_eq!(rt; editing.made().wrapping_sub(made), 2);
+}
+
+// The root is alone, so a removal in it makes nothing. The copy stays.
+fn removes_alone(rt: &impl Abort, editing: &mut MapEditing<Num>, copy: usize) {
+    let made = editing.made();
+    assert!(rt; editing.is_same(rt, copy));
+    assert!(rt; editing.remove(rt, &Num(2), Some(Num(22))));
+    assert_eq!(rt; editing.made(), made);
+    assert!(rt; !editing.is_same(rt, copy));
+    assert_eq!(rt; editing.len(), 1);
+}
+
+// A key and each row on the way to it are made once.
 #[test]
 fn makes_what_is_shared_alone(rt: HostRuntime) {
     let mut editing: MapEditing<Num> = MapEditing::start(&rt, rt.alloc(), 5);
     assert!(rt; editing.insert(&rt, Num(1), Num(10), None));
     assert!(rt; editing.insert(&rt, Num(2), Num(20), None));
+    makes_cells_alone(&rt, &mut editing);
     let made = editing.made();
-    assert!(rt; editing.insert(&rt, Num(1), Num(11), Some(Num(10))));
-    assert_eq!(rt; editing.made().wrapping_sub(made), 1);
-    assert!(rt; editing.own_value(&rt, &Num(1), Some(Num(11))));
-    assert!(rt; editing.insert(&rt, Num(2), Num(22), Some(Num(20))));
-    assert_eq!(rt; editing.made().wrapping_sub(made), 2);
     let copy = editing.keep(&rt);
-    // The root and the pair are copied, and then they are alone.
-    assert!(rt; editing.own_value(&rt, &Num(1), Some(Num(11))));
-    assert_eq!(rt; editing.made().wrapping_sub(made), 4);
-    assert!(rt; editing.own_value(&rt, &Num(1), Some(Num(11))));
-    assert!(rt; editing.own_value(&rt, &Num(3), None));
-    assert!(rt; editing.remove(&rt, &Num(3), None));
-    assert_eq!(rt; editing.made().wrapping_sub(made), 4);
-    assert!(rt; editing.is_same(&rt, copy));
-    // The root is alone, so a removal in it makes nothing.
-    assert!(rt; editing.remove(&rt, &Num(2), Some(Num(22))));
-    assert_eq!(rt; editing.made().wrapping_sub(made), 4);
-    assert!(rt; !editing.is_same(&rt, copy));
-    assert_eq!(rt; editing.len(), 1);
+    copies_once(&rt, &mut editing, made);
+    removes_alone(&rt, &mut editing, copy);
     assert_eq!(rt; editing.close(), 0);
 }
 
-// Edits a map of some keys at its place.
-fn edits_at_a_place(rt: &impl Abort, placed: PlacedMap<Num>) {
-    let mut placed = placed;
-    assert!(rt; placed.insert(rt, Num(1), Num(10), None));
-    assert!(rt; placed.insert(rt, Num(33), Num(20), None));
-    assert!(rt; placed.insert(rt, Num(2), Num(30), None));
+// Edits three keys of a map at its place: one row is made, the cell of the new value.
+fn edits_three_keys(rt: &impl Abort, placed: &mut PlacedMap<Num>) {
     let made = placed.made();
     assert!(rt; placed.insert(rt, Num(33), Num(40), Some(Num(20))));
     assert!(rt; placed.own_value(rt, &Num(33), Some(Num(40))));
@@ -153,6 +173,15 @@ fn edits_at_a_place(rt: &impl Abort, placed: PlacedMap<Num>) {
     assert!(rt; placed.own_value(rt, &Num(65), None));
     assert_eq!(rt; placed.made().wrapping_sub(made), 1);
     assert_eq!(rt; placed.len(), 3);
+}
+
+// Puts three keys in a map at its place, and edits them.
+fn edits_at_a_place(rt: &impl Abort, placed: PlacedMap<Num>) {
+    let mut placed = placed;
+    assert!(rt; placed.insert(rt, Num(1), Num(10), None));
+    assert!(rt; placed.insert(rt, Num(33), Num(20), None));
+    assert!(rt; placed.insert(rt, Num(2), Num(30), None));
+    edits_three_keys(rt, &mut placed);
     assert_eq!(rt; placed.close(), 0);
 }
 
@@ -212,25 +241,34 @@ fn differs_by_little(rt: &impl Abort, editing: &mut MapEditing<Num>, turn: usize
     assert!(rt; !editing.is_same(rt, turn));
 }
 
-// The numbers below 40, each at itself, in maps by so many bits that are built in four ways.
-fn equal_however_built(rt: &impl Abort, alloc: Global, bits: u32) {
-    let mut editing: MapEditing<Num> = MapEditing::start(rt, alloc, bits);
-    let pure = pure_numbers(rt, &mut editing);
-    insert_numbers(rt, &mut editing, 0, 40);
+// The numbers below 40 by pure calls, and by edits in place, and the upper ones of them.
+fn numbers_and_upper(rt: &impl Abort, editing: &mut MapEditing<Num>) -> ([usize; 2], usize) {
+    let pure = pure_numbers(rt, editing);
+    insert_numbers(rt, editing, 0, 40);
     let edited = editing.keep(rt);
-    // By edits in place after pure calls.
-    let upper = upper_numbers(rt, &mut editing);
-    let mut editing = editing.reopened(rt, upper);
-    insert_lower_numbers(rt, &mut editing);
+    ([pure, edited], upper_numbers(rt, editing))
+}
+
+// The same numbers by edits in place after the pure calls for the upper ones, and then by pure calls after those edits.
+fn go_on(rt: &impl Abort, editing: &mut MapEditing<Num>, built: [usize; 2], upper: usize) {
+    let [pure, edited] = built;
+    insert_lower_numbers(rt, editing);
     assert!(rt; !editing.is_same(rt, pure));
     assert!(rt; editing.insert(rt, Num(39), Num(39), Some(Num(0))));
     let mixed = editing.keep(rt);
-    // By pure calls after edits in place.
     let more = editing.pure_insert(rt, mixed, Num(100), Num(100));
     let less = editing.pure_remove(rt, more, &Num(100));
-    are_equal(rt, &editing, [pure, edited, mixed, less], [more, upper, 0]);
-    differs_by_little(rt, &mut editing, pure);
-    assert_eq!(rt; editing.close(), 0);
+    are_equal(rt, editing, [pure, edited, mixed, less], [more, upper, 0]);
+    differs_by_little(rt, editing, pure);
+}
+
+// The numbers below 40, each at itself, in maps by so many bits that are built in four ways.
+fn equal_however_built(rt: &impl Abort, alloc: Global, bits: u32) {
+    let mut editing: MapEditing<Num> = MapEditing::start(rt, alloc, bits);
+    let (built, upper) = numbers_and_upper(rt, &mut editing);
+    let mut editing = editing.reopened(rt, upper);
+    go_on(rt, &mut editing, built, upper);
+    assert!(rt; editing.close() == 0);
 }
 
 #[test]

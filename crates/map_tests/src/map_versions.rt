@@ -6,12 +6,12 @@ ghost use Rattle.champ_kinds.specs.Stands.{IsSomeMap};
 ghost use Rattle.map_tests.specs.Stands.{IsCellMap, Keeps, Holds};
 
 use crate::samples::kept;
-use crate::shapes::{Shape, same_tree, shape_below, shape_of};
+use crate::shapes::{RowShape, same_tree, shape_below, shape_of};
 use champ_kinds::{Map, MapRef, map_insert, map_remove};
 use elem_core::{CODE_BITS, Element, NoMemory, Probe};
 use node_heap::{Glass, Heap, Link, Steps};
 use same_value::{Values, equal_cells, equal_map};
-use set_merge::{map_union, map_union_need};
+use set_merge::{map_union, map_union_need, map_union_there};
 use std::alloc::Global;
 use std::marker::{Brand, Model};
 use std::process::Abort;
@@ -108,6 +108,22 @@ fn united<T: Element>(heap: &mut Heap<T>, a: MapRef, b: MapRef) -> Result<MapRef
     Ok(held(made))
 }
 
+// The union, of spares that are made before.
+fn united_there<T: Element>(heap: &mut Heap<T>, a: MapRef, b: MapRef) -> Result<MapRef, NoMemory>
+    requires first { IsCellMap T.cmp T.code_of heap.old a }
+    requires second { IsCellMap T.cmp T.code_of heap.old b }
+    requires bits { a.bits ≡ b.bits }
+    requires few { hold_count heap.old < half_holds }
+    ensures good { IfOk result (IsCellMap T.cmp T.code_of heap.new) }
+    ensures others { IfOk result (λ _. Keeps (IsCellMap T.cmp T.code_of) heap.old heap.new) }
+    ensures count { IfOk result (λ _. hold_count heap.new ≡ hold_count heap.old + 1) }
+{
+    let need = map_union_need(heap, a, b);
+    heap.reserve(0, need)?;
+    let made = map_union_there(heap, a, b);
+    Ok(held(made))
+}
+
 // The map of this turn. No test makes nearly so many.
 fn map_at<T: Element>(rt: &impl Abort, heap: &Heap<T>, maps: &Vec<MapRef>, turn: usize) -> MapRef
     requires { Holds (IsCellMap T.cmp T.code_of) heap.now maps.now.items }
@@ -192,7 +208,16 @@ impl<T: Element> MapVersions<T> {
         kept(rt, &mut self.maps, made)
     }
 
-    /// How many rows that may make.
+    /// That of `unite`, of spares that are made before.
+    pub fn unite_there(&mut self, rt: &impl Abort, left: usize, right: usize) -> usize {
+        let left = map_at(rt, &self.heap, &self.maps, left);
+        let right = map_at(rt, &self.heap, &self.maps, right);
+        assert!(rt; left.bits() == right.bits());
+        let made = united_there(&mut self.heap, left, right);
+        kept(rt, &mut self.maps, made)
+    }
+
+    /// How many rows that of `unite` may make.
     pub fn need(&self, rt: &impl Abort, left: usize, right: usize) -> usize {
         let left = map_at(rt, &self.heap, &self.maps, left);
         let right = map_at(rt, &self.heap, &self.maps, right);
@@ -254,12 +279,12 @@ impl<T: Element> MapVersions<T> {
     }
 
     /// What its root is.
-    pub fn shape(&self, rt: &impl Abort, turn: usize) -> Shape {
+    pub fn shape(&self, rt: &impl Abort, turn: usize) -> RowShape {
         shape_of(&self.heap, root_at(rt, &self.heap, &self.maps, turn))
     }
 
     /// What stands so many links below its root, by the last link of each row.
-    pub fn shape_below(&self, rt: &impl Abort, turn: usize, levels: u32) -> Option<Shape> {
+    pub fn shape_below(&self, rt: &impl Abort, turn: usize, levels: u32) -> Option<RowShape> {
         let root = root_at(rt, &self.heap, &self.maps, turn);
         shape_below(&self.heap, root, levels)
     }

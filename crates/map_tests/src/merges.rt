@@ -74,31 +74,32 @@ fn merge_small(rt: &impl Abort, sets: &mut SetVersions<Num>) {
     let right = with_all(rt, sets, left, &[3, 34, 129]);
     let right = sets.remove(rt, right, &Num(2));
     let right = sets.remove(rt, right, &Num(40));
-    merges_to(
-        rt,
-        sets,
-        left,
-        right,
-        Merge::Union,
-        &[1, 2, 3, 7, 33, 34, 40, 65, 129, 161],
-    );
-    merges_to(rt, sets, left, right, Merge::Both, &[1, 7, 33, 65, 161]);
-    merges_to(rt, sets, left, right, Merge::Less, &[2, 40]);
-    merges_to(rt, sets, right, left, Merge::Less, &[3, 34, 129]);
     let other = with_all(rt, sets, 0, &[65, 97, 8, 129, 161]);
-    merges_to(
-        rt,
-        sets,
-        left,
-        other,
-        Merge::Union,
-        &[1, 2, 7, 8, 33, 40, 65, 97, 129, 161],
-    );
-    merges_to(rt, sets, left, other, Merge::Both, &[65, 161]);
-    merges_to(rt, sets, left, other, Merge::Less, &[1, 2, 7, 33, 40]);
-    merges_to(rt, sets, left, 0, Merge::Union, &[1, 2, 7, 33, 40, 65, 161]);
-    merges_to(rt, sets, 0, left, Merge::Both, &[]);
-    merges_to(rt, sets, left, left, Merge::Less, &[]);
+    let merges: [(usize, usize, Merge, &[u32]); 10] = [
+        (
+            left,
+            right,
+            Merge::Union,
+            &[1, 2, 3, 7, 33, 34, 40, 65, 129, 161],
+        ),
+        (left, right, Merge::Both, &[1, 7, 33, 65, 161]),
+        (left, right, Merge::Less, &[2, 40]),
+        (right, left, Merge::Less, &[3, 34, 129]),
+        (
+            left,
+            other,
+            Merge::Union,
+            &[1, 2, 7, 8, 33, 40, 65, 97, 129, 161],
+        ),
+        (left, other, Merge::Both, &[65, 161]),
+        (left, other, Merge::Less, &[1, 2, 7, 33, 40]),
+        (left, 0, Merge::Union, &[1, 2, 7, 33, 40, 65, 161]),
+        (0, left, Merge::Both, &[]),
+        (left, left, Merge::Less, &[]),
+    ];
+    for (first, second, kind, numbers) in merges {
+        merges_to(rt, sets, first, second, kind, numbers);
+    }
 }
 
 #[test]
@@ -119,91 +120,149 @@ fn merges_by_all_bits(rt: HostRuntime) {
     merge_small(&rt, &mut sets);
 }
 
-// Numbers taken out of sets that share all else.
-#[test]
-fn merges_what_is_shared(rt: HostRuntime) {
-    let mut sets: SetVersions<Num> = SetVersions::start(&rt, rt.alloc(), CODE_BITS);
-    let mut all = 0;
-    for number in 0..1000 {
-        all = sets.insert(&rt, all, Num(number));
-    }
-    let less = sets.remove(&rt, all, &Num(500));
-    let other = sets.remove(&rt, all, &Num(7));
-    // Of the two rows that each of them has for itself one comes from the other, and the root is made.
+// That a merge of two sets is one of them, at its root, and makes no row.
+fn takes_over(
+    rt: &impl Abort,
+    sets: &mut SetVersions<Num>,
+    left: usize,
+    right: usize,
+    kind: Merge,
+    whole: usize,
+) {
     let rows = sets.rows();
-    let back = sets.unite(&rt, less, other);
-    assert!(rt; sets.rows().wrapping_sub(rows) == 1);
-    assert!(rt; sets.are_equal(&rt, back, all));
-    // Rows are taken over whole where the result is one of the two, and one root is that root.
-    let rows = sets.rows();
-    let whole = sets.unite(&rt, less, all);
-    assert!(rt; sets.are_one(&rt, whole, all));
-    let whole = sets.unite(&rt, all, less);
-    assert!(rt; sets.are_one(&rt, whole, all));
-    let both = sets.meet(&rt, all, less);
-    assert!(rt; sets.are_one(&rt, both, less));
-    let same = sets.unite(&rt, all, all);
-    assert!(rt; sets.are_one(&rt, same, all));
-    let same = sets.meet(&rt, all, all);
-    assert!(rt; sets.are_one(&rt, same, all));
+    let (_need, turn) = merged(rt, sets, left, right, kind);
+    assert!(rt; sets.are_one(rt, turn, whole));
     assert!(rt; sets.rows() == rows);
-    // What is left of a set without itself is one row.
-    let none = sets.lose(&rt, all, all);
-    assert!(rt; sets.len(&rt, none) == 0);
+}
+
+// What is left of a set without itself is one row.
+fn leaves_nothing(rt: &impl Abort, sets: &mut SetVersions<Num>, turn: usize) {
+    let rows = sets.rows();
+    let none = sets.lose(rt, turn, turn);
+    assert!(rt; sets.len(rt, none) == 0);
     assert!(rt; sets.rows().wrapping_sub(rows) <= 1);
 }
 
+// Numbers taken out of sets that share all else.
+fn check_merges_what_is_shared(rt: &impl Abort, sets: &mut SetVersions<Num>) {
+    let mut all = 0;
+    for number in 0..1000 {
+        all = sets.insert(rt, all, Num(number));
+    }
+    let less = sets.remove(rt, all, &Num(500));
+    let other = sets.remove(rt, all, &Num(7));
+    // Of the two rows that each of them has for itself one comes from the other, and the root is made.
+    let rows = sets.rows();
+    let back = sets.unite(rt, less, other);
+    assert!(rt; sets.rows().wrapping_sub(rows) == 1);
+    assert!(rt; sets.are_equal(rt, back, all));
+    // Rows are taken over whole where the result is one of the two, and one root is that root.
+    let merges = [
+        (less, all, Merge::Union, all),
+        (all, less, Merge::Union, all),
+        (all, less, Merge::Both, less),
+        (all, all, Merge::Union, all),
+        (all, all, Merge::Both, all),
+    ];
+    for (first, second, kind, whole) in merges {
+        takes_over(rt, sets, first, second, kind, whole);
+    }
+    leaves_nothing(rt, sets, all);
+}
+
+#[test]
+fn merges_what_is_shared(rt: HostRuntime) {
+    let mut sets: SetVersions<Num> = SetVersions::start(&rt, rt.alloc(), CODE_BITS);
+    check_merges_what_is_shared(&rt, &mut sets);
+}
+
+// The same merge by the call that takes spares.
+fn spared(
+    rt: &impl Abort,
+    sets: &mut SetVersions<Num>,
+    left: usize,
+    right: usize,
+    kind: Merge,
+) -> usize {
+    match kind {
+        Merge::Union => sets.unite_there(rt, left, right),
+        Merge::Both => sets.meet_there(rt, left, right),
+        Merge::Less => sets.lose_there(rt, left, right),
+    }
+}
+
 // The same sets come of spares that are made before.
+fn check_merges_of_spares(rt: &impl Abort, sets: &mut SetVersions<Num>) {
+    let left = with_all(rt, sets, 0, &[1, 2, 33, 65, 1057]);
+    let right = with_all(rt, sets, 0, &[2, 65, 97, 1057]);
+    for kind in [Merge::Union, Merge::Both, Merge::Less] {
+        let (_need, plain) = merged(rt, sets, left, right, kind);
+        let spared = spared(rt, sets, left, right, kind);
+        assert!(rt; sets.are_equal(rt, plain, spared));
+    }
+}
+
 #[test]
 fn merges_of_spares(rt: HostRuntime) {
     let mut sets: SetVersions<Num> = SetVersions::start(&rt, rt.alloc(), CODE_BITS);
-    let left = with_all(&rt, &mut sets, 0, &[1, 2, 33, 65, 1057]);
-    let right = with_all(&rt, &mut sets, 0, &[2, 65, 97, 1057]);
-    let all = sets.unite(&rt, left, right);
-    let spared = sets.unite_there(&rt, left, right);
-    assert!(rt; sets.are_equal(&rt, all, spared));
-    let both = sets.meet(&rt, left, right);
-    let spared = sets.meet_there(&rt, left, right);
-    assert!(rt; sets.are_equal(&rt, both, spared));
-    let less = sets.lose(&rt, left, right);
-    let spared = sets.lose_there(&rt, left, right);
-    assert!(rt; sets.are_equal(&rt, less, spared));
+    check_merges_of_spares(&rt, &mut sets);
 }
 
 // An equal set made apart: each of its keys is the first one's, so the first one's rows are taken over.
-#[test]
-fn merges_equal_sets_made_apart(rt: HostRuntime) {
-    let mut sets: SetVersions<Num> = SetVersions::start(&rt, rt.alloc(), CODE_BITS);
+fn check_merges_equal_sets_made_apart(rt: &impl Abort, sets: &mut SetVersions<Num>) {
     let mut first = 0;
     let mut apart = 0;
     for number in 0..100 {
-        first = sets.insert(&rt, first, Num(number));
-        apart = sets.insert(&rt, apart, Num(99 - number));
+        first = sets.insert(rt, first, Num(number));
+        apart = sets.insert(rt, apart, Num(99 - number));
     }
-    let rows = sets.rows();
-    let all = sets.unite(&rt, first, apart);
-    assert!(rt; sets.are_one(&rt, all, first));
-    let both = sets.meet(&rt, apart, first);
-    assert!(rt; sets.are_one(&rt, both, apart));
-    assert!(rt; sets.rows() == rows);
+    takes_over(rt, sets, first, apart, Merge::Union, first);
+    takes_over(rt, sets, apart, first, Merge::Both, apart);
+}
+
+#[test]
+fn merges_equal_sets_made_apart(rt: HostRuntime) {
+    let mut sets: SetVersions<Num> = SetVersions::start(&rt, rt.alloc(), CODE_BITS);
+    check_merges_equal_sets_made_apart(&rt, &mut sets);
 }
 
 // Where both maps have a key, the first one's value counts.
+fn check_merges_maps(rt: &impl Abort, maps: &mut MapVersions<Num>) {
+    let left = maps.insert(rt, 0, Num(1), Num(10));
+    let left = maps.insert(rt, left, Num(33), Num(11));
+    let right = maps.insert(rt, 0, Num(33), Num(12));
+    let right = maps.insert(rt, right, Num(2), Num(13));
+    let need = maps.need(rt, left, right);
+    let rows = maps.live();
+    let made = maps.unite(rt, left, right);
+    assert!(rt; maps.live().wrapping_sub(rows) <= need);
+    assert!(rt; maps.len(rt, made) == 3);
+    assert!(rt; maps.is_bound(rt, made, &Num(1), &Num(10)));
+    assert!(rt; maps.is_bound(rt, made, &Num(2), &Num(13)));
+    assert!(rt; maps.is_bound(rt, made, &Num(33), &Num(11)));
+    let same = maps.unite(rt, left, left);
+    assert!(rt; maps.are_one(rt, same, left));
+}
+
 #[test]
 fn merges_maps(rt: HostRuntime) {
     let mut maps: MapVersions<Num> = MapVersions::start(&rt, rt.alloc(), CODE_BITS);
-    let left = maps.insert(&rt, 0, Num(1), Num(10));
-    let left = maps.insert(&rt, left, Num(33), Num(11));
-    let right = maps.insert(&rt, 0, Num(33), Num(12));
-    let right = maps.insert(&rt, right, Num(2), Num(13));
-    let need = maps.need(&rt, left, right);
-    let rows = maps.live();
-    let made = maps.unite(&rt, left, right);
-    assert!(rt; maps.live().wrapping_sub(rows) <= need);
-    assert!(rt; maps.len(&rt, made) == 3);
-    assert!(rt; maps.is_bound(&rt, made, &Num(1), &Num(10)));
-    assert!(rt; maps.is_bound(&rt, made, &Num(2), &Num(13)));
-    assert!(rt; maps.is_bound(&rt, made, &Num(33), &Num(11)));
-    let same = maps.unite(&rt, left, left);
-    assert!(rt; maps.are_one(&rt, same, left));
+    check_merges_maps(&rt, &mut maps);
+}
+
+// The same map comes of spares that are made before.
+fn check_merges_maps_of_spares(rt: &impl Abort, maps: &mut MapVersions<Num>) {
+    let left = maps.insert(rt, 0, Num(1), Num(10));
+    let left = maps.insert(rt, left, Num(33), Num(11));
+    let right = maps.insert(rt, 0, Num(33), Num(12));
+    let right = maps.insert(rt, right, Num(2), Num(13));
+    let plain = maps.unite(rt, left, right);
+    let spared = maps.unite_there(rt, left, right);
+    assert!(rt; maps.are_equal(rt, plain, spared));
+}
+
+#[test]
+fn merges_maps_of_spares(rt: HostRuntime) {
+    let mut maps: MapVersions<Num> = MapVersions::start(&rt, rt.alloc(), CODE_BITS);
+    check_merges_maps_of_spares(&rt, &mut maps);
 }

@@ -9,55 +9,71 @@ use std::process::Abort;
 use std::test::Fail;
 
 // Two numbers with one masked code are two keys of a set.
+fn check_keeps_numbers(rt: &impl Abort, sets: &mut SetVersions<Num>) {
+    let one = sets.insert(rt, 0, Num(1));
+    let two = sets.insert(rt, one, Num(33));
+    assert!(rt; sets.len(rt, two) == 2);
+    assert!(rt; sets.has(rt, two, &Num(33)));
+    assert!(rt; !sets.has(rt, two, &Num(65)));
+    assert!(rt; sets.alike(rt, two, &Num(65)) == 2);
+    assert!(rt; sets.walked(rt, two) == 2);
+}
+
 #[test]
 fn keeps_numbers(rt: HostRuntime) {
     let mut sets: SetVersions<Num> = SetVersions::start(&rt, rt.alloc(), 5);
-    let one = sets.insert(&rt, 0, Num(1));
-    let two = sets.insert(&rt, one, Num(33));
-    assert!(rt; sets.len(&rt, two) == 2);
-    assert!(rt; sets.has(&rt, two, &Num(33)));
-    assert!(rt; !sets.has(&rt, two, &Num(65)));
-    assert!(rt; sets.alike(&rt, two, &Num(65)) == 2);
-    assert!(rt; sets.walked(&rt, two) == 2);
+    check_keeps_numbers(&rt, &mut sets);
+}
+
+fn check_loses_a_number(rt: &impl Abort, sets: &mut SetVersions<Num>) {
+    let one = sets.insert(rt, 0, Num(1));
+    let two = sets.insert(rt, one, Num(33));
+    let less = sets.remove(rt, two, &Num(1));
+    assert!(rt; !sets.has(rt, less, &Num(1)));
+    assert!(rt; sets.has(rt, less, &Num(33)));
+    assert!(rt; sets.len(rt, less) == 1);
 }
 
 #[test]
 fn loses_a_number(rt: HostRuntime) {
     let mut sets: SetVersions<Num> = SetVersions::start(&rt, rt.alloc(), 5);
-    let one = sets.insert(&rt, 0, Num(1));
-    let two = sets.insert(&rt, one, Num(33));
-    let less = sets.remove(&rt, two, &Num(1));
-    assert!(rt; !sets.has(&rt, less, &Num(1)));
-    assert!(rt; sets.has(&rt, less, &Num(33)));
-    assert!(rt; sets.len(&rt, less) == 1);
+    check_loses_a_number(&rt, &mut sets);
+}
+
+fn check_keeps_names(rt: &impl Abort, alloc: Global, sets: &mut SetVersions<Text>) {
+    let first = name(rt, "z");
+    let second = name(rt, "b");
+    let one = sets.insert(rt, 0, text(rt, alloc, "z"));
+    let two = sets.insert(rt, one, text(rt, alloc, "b"));
+    let same = sets.insert(rt, two, text(rt, alloc, "z"));
+    assert!(rt; sets.are_one(rt, same, two));
+    assert!(rt; sets.len(rt, same) == 2);
+    assert!(rt; sets.has(rt, same, &first));
+    assert!(rt; sets.has(rt, same, &second));
+    assert!(rt; sets.alike(rt, same, &first) == 1);
+    assert!(rt; sets.walked(rt, same) == 2);
 }
 
 #[test]
 fn keeps_names(rt: HostRuntime) {
-    let first = name(&rt, "z");
-    let second = name(&rt, "b");
     let mut sets: SetVersions<Text> = SetVersions::start(&rt, rt.alloc(), CODE_BITS);
-    let one = sets.insert(&rt, 0, text(&rt, rt.alloc(), "z"));
-    let two = sets.insert(&rt, one, text(&rt, rt.alloc(), "b"));
-    let same = sets.insert(&rt, two, text(&rt, rt.alloc(), "z"));
-    assert!(rt; sets.are_one(&rt, same, two));
-    assert!(rt; sets.len(&rt, same) == 2);
-    assert!(rt; sets.has(&rt, same, &first));
-    assert!(rt; sets.has(&rt, same, &second));
-    assert!(rt; sets.alike(&rt, same, &first) == 1);
-    assert!(rt; sets.walked(&rt, same) == 2);
+    check_keeps_names(&rt, rt.alloc(), &mut sets);
+}
+
+fn check_loses_a_name(rt: &impl Abort, alloc: Global, sets: &mut SetVersions<Text>) {
+    let first = name(rt, "z");
+    let one = sets.insert(rt, 0, text(rt, alloc, "z"));
+    let two = sets.insert(rt, one, text(rt, alloc, "b"));
+    let less = sets.remove(rt, two, &first);
+    assert!(rt; !sets.has(rt, less, &first));
+    assert!(rt; sets.walked(rt, less) == 1);
+    assert!(rt; sets.walked(rt, two) == 2);
 }
 
 #[test]
 fn loses_a_name(rt: HostRuntime) {
-    let first = name(&rt, "z");
     let mut sets: SetVersions<Text> = SetVersions::start(&rt, rt.alloc(), CODE_BITS);
-    let one = sets.insert(&rt, 0, text(&rt, rt.alloc(), "z"));
-    let two = sets.insert(&rt, one, text(&rt, rt.alloc(), "b"));
-    let less = sets.remove(&rt, two, &first);
-    assert!(rt; !sets.has(&rt, less, &first));
-    assert!(rt; sets.walked(&rt, less) == 1);
-    assert!(rt; sets.walked(&rt, two) == 2);
+    check_loses_a_name(&rt, rt.alloc(), &mut sets);
 }
 
 // The law of sets, at a heap without rows.

@@ -7,7 +7,7 @@ use node_heap::{Head, Heap, Link};
 
 /// What a row is, beside its links and its value.
 #[derive(Clone, Copy, PartialEq)]
-pub enum Shape {
+pub enum RowShape {
     Cell,
     Trie { depth: u8, entries: u32, nodes: u32 },
     Chain,
@@ -16,30 +16,30 @@ pub enum Shape {
 }
 
 /// What this row is.
-pub fn shape_of<T>(heap: &Heap<T>, link: Link) -> Shape
+pub fn shape_of<T>(heap: &Heap<T>, link: Link) -> RowShape
     requires { IsSome (row_at heap.now link) }
 {
     match heap.head(link) {
-        None => Shape::Cell,
+        None => RowShape::Cell,
         Some(
             Head::Trie {
                 depth,
                 entries,
                 nodes,
             },
-        ) => Shape::Trie {
+        ) => RowShape::Trie {
             depth: *depth,
             entries: *entries,
             nodes: *nodes,
         },
-        Some(Head::Chain) => Shape::Chain,
-        Some(Head::Pair) => Shape::Pair,
-        Some(_) => Shape::Other,
+        Some(Head::Chain) => RowShape::Chain,
+        Some(Head::Pair) => RowShape::Pair,
+        Some(_) => RowShape::Other,
     }
 }
 
 /// What stands so many links down, by the last link of each row.
-pub fn shape_below<T>(heap: &Heap<T>, link: Link, levels: u32) -> Option<Shape>
+pub fn shape_below<T>(heap: &Heap<T>, link: Link, levels: u32) -> Option<RowShape>
     requires { IsSome (row_at heap.now link) }
 {
     if levels == 0 {

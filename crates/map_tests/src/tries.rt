@@ -5,9 +5,10 @@ ghost use Rattle.node_heap.specs.Heap.{row_at, holds_at, hold_count, most_holds}
 use crate::samples::{name, text};
 use crate::trie_versions::TrieVersions;
 use champ_chain::chains_are_read_one_way;
-use champ_trie::{Place, depends_on_entries, row_of_places, rows_are_told_by_places, tries_stay};
+use champ_trie::{DraftRow, Place, depends_on_entries, rows_are_told_by_places, tries_stay};
 use elem_core::{CODE_BITS, NoMemory, Num, Text};
 use node_heap::{Head, Heap, Link};
+use std::alloc::Global;
 use std::process::Abort;
 
 // The trie with three numbers that have one code by five bits.
@@ -18,19 +19,23 @@ fn three_alike(rt: &impl Abort, tries: &mut TrieVersions<Num>) -> usize {
 }
 
 // Of the three two are taken out: the entry that is left is the cell that it was.
+fn check_leaves_the_last_entry_its_own_cell(rt: &impl Abort, tries: &mut TrieVersions<Num>) {
+    let three = three_alike(rt, tries);
+    let first = tries.find(rt, three, &Num(1));
+    assert!(rt; tries.count(rt, three) == 3);
+    assert!(rt; tries.alike(rt, three, &Num(97)) == 3);
+    let less = tries.remove(rt, three, &Num(33));
+    assert!(rt; tries.find(rt, less, &Num(33)).is_none());
+    assert!(rt; tries.alike(rt, less, &Num(97)) == 2);
+    let last = tries.remove(rt, less, &Num(65));
+    assert!(rt; tries.count(rt, last) == 1);
+    assert!(rt; first.is_some() && tries.find(rt, last, &Num(1)) == first);
+}
+
 #[test]
 fn leaves_the_last_entry_its_own_cell(rt: HostRuntime) {
     let mut tries: TrieVersions<Num> = TrieVersions::start(&rt, rt.alloc(), 5);
-    let three = three_alike(&rt, &mut tries);
-    let first = tries.find(&rt, three, &Num(1));
-    assert!(rt; tries.count(&rt, three) == 3);
-    assert!(rt; tries.alike(&rt, three, &Num(97)) == 3);
-    let less = tries.remove(&rt, three, &Num(33));
-    assert!(rt; tries.find(&rt, less, &Num(33)).is_none());
-    assert!(rt; tries.alike(&rt, less, &Num(97)) == 2);
-    let last = tries.remove(&rt, less, &Num(65));
-    assert!(rt; tries.count(&rt, last) == 1);
-    assert!(rt; first.is_some() && tries.find(&rt, last, &Num(1)) == first);
+    check_leaves_the_last_entry_its_own_cell(&rt, &mut tries);
 }
 
 // Whether a look-up gives what `find` and `alike` give.
@@ -39,28 +44,36 @@ fn agrees(rt: &impl Abort, tries: &TrieVersions<Num>, turn: usize, key: u32) -> 
     entry == tries.find(rt, turn, &Num(key)) && alike == tries.alike(rt, turn, &Num(key))
 }
 
-#[test]
-fn looks_up_as_find_and_alike(rt: HostRuntime) {
-    let mut tries: TrieVersions<Num> = TrieVersions::start(&rt, rt.alloc(), 5);
-    let three = three_alike(&rt, &mut tries);
-    assert!(rt; agrees(&rt, &tries, 0, 1));
-    assert!(rt; agrees(&rt, &tries, three, 33));
-    assert!(rt; agrees(&rt, &tries, three, 97));
-    assert!(rt; agrees(&rt, &tries, three, 2));
-    let (entry, alike) = tries.look_up(&rt, three, &Num(33));
+fn check_looks_up_as_find_and_alike(rt: &impl Abort, tries: &mut TrieVersions<Num>) {
+    let three = three_alike(rt, tries);
+    assert!(rt; agrees(rt, tries, 0, 1));
+    assert!(rt; agrees(rt, tries, three, 33));
+    assert!(rt; agrees(rt, tries, three, 97));
+    assert!(rt; agrees(rt, tries, three, 2));
+    let (entry, alike) = tries.look_up(rt, three, &Num(33));
     assert!(rt; entry.is_some() && alike == 3);
 }
 
+#[test]
+fn looks_up_as_find_and_alike(rt: HostRuntime) {
+    let mut tries: TrieVersions<Num> = TrieVersions::start(&rt, rt.alloc(), 5);
+    check_looks_up_as_find_and_alike(&rt, &mut tries);
+}
+
 // 1 and 33 stand in a row below the root, and 2 in the root. Each edit makes a cell and the rows on its key's way alone.
+fn check_shares_what_stands_beside(rt: &impl Abort, tries: &mut TrieVersions<Num>) {
+    let one = tries.insert(rt, 0, Num(1));
+    assert!(rt; tries.made() == 3);
+    let two = tries.insert(rt, one, Num(33));
+    assert!(rt; tries.made() == 6);
+    let _three = tries.insert(rt, two, Num(2));
+    assert!(rt; tries.made() == 8);
+}
+
 #[test]
 fn shares_what_stands_beside(rt: HostRuntime) {
     let mut tries: TrieVersions<Num> = TrieVersions::start(&rt, rt.alloc(), CODE_BITS);
-    let one = tries.insert(&rt, 0, Num(1));
-    assert!(rt; tries.made() == 3);
-    let two = tries.insert(&rt, one, Num(33));
-    assert!(rt; tries.made() == 6);
-    let _three = tries.insert(&rt, two, Num(2));
-    assert!(rt; tries.made() == 8);
+    check_shares_what_stands_beside(&rt, &mut tries);
 }
 
 // A number of each turn of its own.
@@ -109,17 +122,21 @@ fn finds_what_is_there(rt: HostRuntime) {
     }
 }
 
+fn check_finds_texts_by_names(rt: &impl Abort, alloc: Global, tries: &mut TrieVersions<Text>) {
+    let key = name(rt, "b");
+    let one = tries.insert(rt, 0, text(rt, alloc, "a"));
+    let two = tries.insert(rt, one, text(rt, alloc, "b"));
+    assert!(rt; tries.find(rt, two, &key).is_some());
+    assert!(rt; tries.alike(rt, two, &key) == 1);
+    let left = tries.remove(rt, two, &key);
+    assert!(rt; tries.find(rt, left, &key).is_none());
+    assert!(rt; tries.count(rt, left) == 1);
+}
+
 #[test]
 fn finds_texts_by_names(rt: HostRuntime) {
-    let key = name(&rt, "b");
     let mut tries: TrieVersions<Text> = TrieVersions::start(&rt, rt.alloc(), CODE_BITS);
-    let one = tries.insert(&rt, 0, text(&rt, rt.alloc(), "a"));
-    let two = tries.insert(&rt, one, text(&rt, rt.alloc(), "b"));
-    assert!(rt; tries.find(&rt, two, &key).is_some());
-    assert!(rt; tries.alike(&rt, two, &key) == 1);
-    let left = tries.remove(&rt, two, &key);
-    assert!(rt; tries.find(&rt, left, &key).is_none());
-    assert!(rt; tries.count(&rt, left) == 1);
+    check_finds_texts_by_names(&rt, rt.alloc(), &mut tries);
 }
 
 // The laws of tries, at heaps without rows.
@@ -144,9 +161,9 @@ fn row_at_three(heap: &mut Heap<Num>, entry: Link) -> Link
     requires few { hold_count heap.old < most_holds }
     ensures { IsSome (row_at heap.new result) }
 {
-    let mut places = [Place::Empty; 32];
-    places[3] = Place::Entry(entry);
-    row_of_places(heap, 0, &places)
+    let mut row = DraftRow::empty();
+    row.put(3, Place::Entry(entry));
+    row.make(heap, 0)
 }
 
 #[test]
@@ -171,26 +188,34 @@ fn makes_a_row_of_given_places(rt: HostRuntime) -> Result<(), NoMemory> {
 }
 
 // Digits of five bits, from the low end on: 33 is 1 and 1, 1025 is 1, 0 and 1.
+fn check_walks_each_row_before_those_below_it(rt: &impl Abort, tries: &mut TrieVersions<Num>) {
+    assert!(rt; tries.walks_as(rt, 0, &[]));
+    let one = tries.insert(rt, 0, Num(33));
+    let two = tries.insert(rt, one, Num(1));
+    let three = tries.insert(rt, two, Num(1025));
+    let four = tries.insert(rt, three, Num(2));
+    assert!(rt; tries.walks_as(rt, four, &[Num(2), Num(33), Num(1), Num(1025)]));
+}
+
 #[test]
 fn walks_each_row_before_those_below_it(rt: HostRuntime) {
     let mut tries: TrieVersions<Num> = TrieVersions::start(&rt, rt.alloc(), CODE_BITS);
-    assert!(rt; tries.walks_as(&rt, 0, &[]));
-    let one = tries.insert(&rt, 0, Num(33));
-    let two = tries.insert(&rt, one, Num(1));
-    let three = tries.insert(&rt, two, Num(1025));
-    let four = tries.insert(&rt, three, Num(2));
-    assert!(rt; tries.walks_as(&rt, four, &[Num(2), Num(33), Num(1), Num(1025)]));
+    check_walks_each_row_before_those_below_it(&rt, &mut tries);
 }
 
 // Four numbers, of which three have one code by five bits.
+fn check_walks_a_chain_by_its_keys(rt: &impl Abort, tries: &mut TrieVersions<Num>) {
+    let one = tries.insert(rt, 0, Num(65));
+    let two = tries.insert(rt, one, Num(33));
+    let three = tries.insert(rt, two, Num(2));
+    let four = tries.insert(rt, three, Num(1));
+    assert!(rt; tries.walks_as(rt, four, &[Num(2), Num(1), Num(33), Num(65)]));
+}
+
 #[test]
 fn walks_a_chain_by_its_keys(rt: HostRuntime) {
     let mut tries: TrieVersions<Num> = TrieVersions::start(&rt, rt.alloc(), 5);
-    let one = tries.insert(&rt, 0, Num(65));
-    let two = tries.insert(&rt, one, Num(33));
-    let three = tries.insert(&rt, two, Num(2));
-    let four = tries.insert(&rt, three, Num(1));
-    assert!(rt; tries.walks_as(&rt, four, &[Num(2), Num(1), Num(33), Num(65)]));
+    check_walks_a_chain_by_its_keys(&rt, &mut tries);
 }
 
 // Two numbers that differ in their seventh digit alone, which has the top bits of numbers.

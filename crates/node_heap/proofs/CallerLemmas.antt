@@ -4,6 +4,7 @@
 pub use Rattle.node_heap.proofs.Counts.{count-cons, one_at-flip, test_same, test_other, le-sum_by, sum_by-same, sum_by-fewer, get_or-map_default}
 pub use Rattle.node_heap.proofs.BuildLemmas.{count-cons as count-link, count-one, count-append}
 pub use Rattle.node_heap.proofs.Edited.{count-at}
+pub use Rattle.node_heap.proofs.Rewritten.{held-one}
 pub use Rattle.node_heap.proofs.OwnerLemmas.{count-two, found-at, left-at, insert-removed}
 -- what a link reaches, and around which rows
 pub use Rattle.node_heap.proofs.Reach.{Reaches-then, Reaches-trans, Reaches-by, Reaches-same, Reaches-within, SameBelow-link, HasLink-same}
@@ -34,6 +35,8 @@ pub use Rattle.node_heap.proofs.Owners.{KeepsOwners-Unchanged}
 -- edits by an owner: a hold, or a place of a row with one owner
 pub use Rattle.node_heap.proofs.OwnerLemmas.{EditsBy-hold, EditsBy-place, EditsBy-more, EditsBy-Unchanged, KeepsHeld-EditsBy, held-root, rows-placed, relinked-is}
 pub use Rattle.node_heap.proofs.OwnedRows.{IsOwned, Owns, owns, owned-hold, owned-same, graph-before, after-room, held-mid, apart-mid, makes-came, to-need}
+pub use Rattle.node_heap.proofs.OwnedChild.{OwnsChild, apart-child, child-linked, gains-child, own-apart, own-below, own-beneath, own-child-there, own-down, own-held, own-linked, only-one, own-there, owned-child, owns-child, parent-same, sole-before}
+pub use Rattle.node_heap.proofs.RootLemmas.{apart-room, can-room, handed, held-room, is-owned, makes-gained, needs-gained, root-held, root-placed, root-room, up-room}
 pub use Rattle.node_heap.proofs.BesideOwner.{beside-in, held-is, off-root, same-below}
 -- paths of which some rows are alone
 pub use Rattle.node_heap.proofs.AloneLemmas.{alone-yes, alone-no, alone-same, alone-own, alone-copied, written-cons, written-own}

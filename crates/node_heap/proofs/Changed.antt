@@ -4,12 +4,12 @@ use Rattle.std.specs.Prelude.{sum, sum_by, remove, IfSome}
 use Rattle.std.proofs.lemmas.Bool.{cases_eq}
 use Rattle.std.proofs.lemmas.List.Sums.{sum_by-insert, sum_by-cons}
 use Rattle.std.proofs.lemmas.List.Edits.{length-insert, length-remove}
-use Rattle.node_heap.specs.Links.{count}
+use Rattle.node_heap.specs.Links.{count, without, changed_links, came}
 use Rattle.node_heap.specs.Forms.{Row, cell, node, links_of, is_cell, is_node}
 use Rattle.node_heap.specs.Heap.{Heap, row_at, most_holds}
 use Rattle.node_heap.specs.Calls.{AddsLike, Makes}
 use Rattle.node_heap.specs.Layout.{Slot, Table, row_of_slot, owners_in, holds_in, slot_at, places_at, PutsIn, IsCounted, IsHeap, seen}
-use Rattle.node_heap.specs.Pairs.{more, without, changed_links, came, MakesOf}
+use Rattle.node_heap.specs.Pairs.{more, MakesOf}
 use Rattle.node_heap.proofs.Counts.{test_same, test_other, one_at-flip}
 use Rattle.node_heap.proofs.Slots.{row_at-slots, owners_at-slots}
 use Rattle.node_heap.proofs.Stored.{IsGraph-stored, Makes-stored, kinds}

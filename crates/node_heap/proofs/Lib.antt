@@ -28,6 +28,8 @@ pub mod EditLaws
 pub mod AloneLemmas
 pub mod OwnerLemmas
 pub mod OwnedRows
+pub mod OwnedChild
+pub mod RootLemmas
 pub mod BesideOwner
 pub mod BesidePath
 pub mod Rewritten

@@ -1,9 +1,9 @@
 -- Edits by an owner, and what stays beside it.
-use Rattle.std.proofs.Common.{◌≡◌, ◌≢◌, ℕ, suc, zero, ◌+◌, ◌-◌, ◌<◌, ◌≤◌, List, [], ◌∷◌, ◌++◌, length, take, drop, get_or, set, refl, ap, sym, subst, ◌∙◌, arith, length-set, length-drop, Bool, true, false, Option, Some, None, inl, inr}
+use Rattle.std.proofs.Common.{◌≡◌, ◌≢◌, ℕ, suc, zero, ◌+◌, ◌-◌, ◌<◌, ◌≤◌, List, [], ◌∷◌, ◌++◌, length, take, drop, get_or, set, refl, ap, sym, subst, ◌∙◌, arith, length-set, length-drop, append-nil, Bool, true, false, Option, Some, None, inl, inr}
 use Rattle.std.specs.Prelude.{◌==◌, insert, remove, if◌then◌else◌}
 use Rattle.std.proofs.lemmas.Bool.{cases_eq, cases_lt}
 use Rattle.std.proofs.lemmas.Bool.Decides.{nat_tests}
-use Rattle.std.proofs.lemmas.List.{get_or-set_same, get_or-set_other, get_or-take, get_or-drop, length-take}
+use Rattle.std.proofs.lemmas.List.{get_or-set_same, get_or-set_other, get_or-take, get_or-drop, length-take, drop_all}
 use Rattle.node_heap.specs.Links.{count, HasLink, Reaches, here, below}
 use Rattle.node_heap.specs.Forms.{Row, cell, node, head_of, links_of}
 use Rattle.node_heap.specs.Heap.{Heap, row_at, links_at, holds_at, owners_at, one_at, IsGraph}
@@ -39,6 +39,10 @@ pub insert-removed : (xs : List ℕ) (i x : ℕ) → i < length xs → insert (r
 insert-removed [] i x lt = absurd (omega (arith, lt))
 insert-removed (y ∷ ys) zero x lt = refl
 insert-removed (y ∷ ys) (suc i) x lt = ap (λ (zs : List ℕ). y ∷ zs) (insert-removed ys i x (omega (arith, lt)))
+
+-- without the last, the others stay
+pub remove-last : {X : Type 0} (xs : List X) (i : ℕ) → i + 1 ≡ length xs → take i xs ≡ remove xs i
+remove-last xs i is = sym (append-nil (take i xs)) ∙ sym (ap (λ zs. take i xs ++ zs) (drop_all (suc i) xs (omega (arith, is))))
 
 -- what is counted stands at a place
 pub found-at : (xs : List ℕ) (y : ℕ) → 0 < count y xs → (j : ℕ) × (j < length xs) × (get_or xs j 0 ≡ y)

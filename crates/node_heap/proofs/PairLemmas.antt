@@ -6,11 +6,11 @@ use Rattle.std.proofs.lemmas.Bool.{cases_eq, cases_lt}
 use Rattle.std.proofs.lemmas.Bool.Decides.{nat_tests}
 use Rattle.std.proofs.lemmas.List.{drop_more, get_or-set_other, get_or_read}
 use Rattle.std.proofs.lemmas.List.Sums.{sum_by-cons, sum_by-set, sum_by-remove}
-use Rattle.node_heap.specs.Links.{count}
+use Rattle.node_heap.specs.Links.{count, without}
 use Rattle.node_heap.specs.Forms.{Row, links_of}
 use Rattle.node_heap.specs.Heap.{one_at}
 use Rattle.node_heap.specs.Layout.{Slot, rows_of_slots, slot_at, places_at, graph_of}
-use Rattle.node_heap.specs.Pairs.{without, only, common, common_at, paired, no_pair, IsOf, IsPair, IsSharing}
+use Rattle.node_heap.specs.Pairs.{only, common, common_at, paired, no_pair, IsOf, IsPair, IsSharing}
 use Rattle.node_heap.specs.declared.pairs.Pair.{Pair}
 use Rattle.node_heap.proofs.Counts.{count-cons, test_same, test_other}
 use Rattle.node_heap.proofs.Slots.{row_at-slots}

@@ -5,10 +5,10 @@ use Rattle.std.specs.List.{All}
 use Rattle.std.proofs.lemmas.Bool.{cases_eq, cases_lt}
 use Rattle.std.proofs.lemmas.List.Edits.{length-insert}
 use Rattle.std.proofs.lemmas.List.Sums.{sum_by-append, sum_by-cons}
-use Rattle.node_heap.specs.Links.{count}
+use Rattle.node_heap.specs.Links.{count, without, with_link, changed_links}
 use Rattle.node_heap.specs.Forms.{node, links_of}
 use Rattle.node_heap.specs.Layout.{Table, row_of_slot, owners_in, slot_at, graph_of, PutsIn, KeepsRoom}
-use Rattle.node_heap.specs.Pairs.{without, with_link, changed_links, common, common_at, paired, more, counted_too, IsPair, IsSharing, MakesOf}
+use Rattle.node_heap.specs.Pairs.{common, common_at, paired, more, counted_too, IsPair, IsSharing, MakesOf}
 use Rattle.node_heap.specs.declared.pairs.Pair.{Pair}
 use Rattle.node_heap.specs.declared.row.Head.{Head}
 use Rattle.node_heap.proofs.Counts.{test_same, test_other}

@@ -14,6 +14,7 @@ pub mod Tries
 pub mod Inside
 pub mod InPlace
 pub mod Owner
+pub mod Root
 pub mod Glass
 pub mod Reads
 pub mod LendsSlot

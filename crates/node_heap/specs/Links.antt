@@ -1,5 +1,5 @@
 -- Links on their own: what each row leads to.
-use Rattle.std.specs.Prelude.{◌≡◌, ℕ, ◌<◌, List, count_by, ◌==◌}
+use Rattle.std.specs.Prelude.{◌≡◌, ℕ, ◌<◌, List, [], ◌∷◌, insert, remove, Option, Some, None, count_by, ◌==◌}
 
 -- the links of each row
 abbrev pub Links : Type 0
@@ -33,3 +33,22 @@ IsAcyclic L = (l k : ℕ) → HasLink L l k → ¬ Reaches L k l
 -- the two agree at each link that this link reaches
 abbrev pub SameBelow : {X : Type 0} → Links → (ℕ → X) → (ℕ → X) → ℕ → Type 0
 SameBelow L G H l = (m : ℕ) → Reaches L l m → H m ≡ G m
+
+-- a list without the link at an index, if any
+abbrev pub without : Option ℕ → List ℕ → List ℕ
+without None xs = xs
+without (Some i) xs = remove xs i
+
+-- a list with a link put in at an index, if any
+abbrev pub with_link : Option (ℕ × ℕ) → List ℕ → List ℕ
+with_link None xs = xs
+with_link (Some p) xs = insert xs p.0 p.1
+
+-- the link that is put in
+abbrev pub came : Option (ℕ × ℕ) → List ℕ
+came None = []
+came (Some p) = p.1 ∷ []
+
+-- one link out, and one in
+abbrev pub changed_links : Option ℕ → Option (ℕ × ℕ) → List ℕ → List ℕ
+changed_links out into xs = with_link into (without out xs)

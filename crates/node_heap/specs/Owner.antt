@@ -5,11 +5,9 @@ use Rattle.node_heap.specs.Forms.{Row, cell, node, head_of}
 use Rattle.node_heap.specs.Heap.{Heap, row_at, links_at, holds_at, owners_at, one_at, IsGraph}
 use Rattle.node_heap.specs.Calls.{KeepsBelow, KeepsHeld, Unchanged, Builds, Trades}
 use Rattle.node_heap.specs.InPlace.{child_at, other_at, Changes}
-
 -- a hold of the root, or the place at an index of a parent
-pub data Owner : Type 0 where
-  by_hold : ℕ → Owner
-  by_place : ℕ → ℕ → Owner
+pub use Rattle.node_heap.specs.declared.owner.Owner.{Owner}
+pub use Rattle.node_heap.specs.declared.owner.Owner.TheVariants.{Hold as by_hold, Child as by_place}
 
 -- the holds that an owner has of its root: one, or none where it is a place
 abbrev pub held_by : Owner → ℕ → List ℕ

@@ -1,34 +1,15 @@
--- How rows share owners: pairs of rows of which one was made of the other by one change, and whose common links have one owner for both.
-use Rattle.std.specs.Prelude.{◌≡◌, ◌≢◌, ◌⊎◌, ℕ, suc, ◌+◌, ◌-◌, ◌^◌, ◌<◌, ◌≤◌, List, [], ◌∷◌, length, take, drop, insert, remove, Option, Some, None, IsSome, sum_by, slice_index_or, ◌==◌, if◌then◌else◌}
+-- Pairs of rows, of which one was made of the other by one change, and whose common links have one owner for both.
+use Rattle.std.specs.Prelude.{◌≡◌, ◌≢◌, ◌⊎◌, ℕ, suc, ◌+◌, ◌-◌, ◌^◌, ◌<◌, ◌≤◌, List, [], ◌∷◌, length, take, drop, remove, Option, Some, None, IsSome, sum_by, slice_index_or, ◌==◌, if◌then◌else◌}
 use Rattle.std.specs.List.{All}
-use Rattle.node_heap.specs.Links.{count}
+use Rattle.node_heap.specs.Links.{count, without}
 use Rattle.node_heap.specs.Forms.{Row, links_of, is_cell, is_node}
 use Rattle.node_heap.specs.Layout.{Slot, Table, slot_at, owners_in, graph_of, places_at, rows_of_slots, with_owners, filled_count, KeepsRoom}
 use Rattle.node_heap.specs.declared.pairs.Pair.{Pair}
-
--- a list without the link at an index, if any
-abbrev pub without : Option ℕ → List ℕ → List ℕ
-without None xs = xs
-without (Some i) xs = remove xs i
 
 -- that link alone
 abbrev pub only : Option ℕ → List ℕ → List ℕ
 only None xs = []
 only (Some i) xs = take 1 (drop i xs)
-
--- a list with a link put in at an index, if any
-abbrev pub with_link : Option (ℕ × ℕ) → List ℕ → List ℕ
-with_link None xs = xs
-with_link (Some p) xs = insert xs p.0 p.1
-
--- the link that is put in
-abbrev pub came : Option (ℕ × ℕ) → List ℕ
-came None = []
-came (Some p) = p.1 ∷ []
-
--- one link out, and one in
-abbrev pub changed_links : Option ℕ → Option (ℕ × ℕ) → List ℕ → List ℕ
-changed_links out into xs = with_link into (without out xs)
 
 -- the rows of the pairs
 abbrev pub paired : List Pair → List ℕ

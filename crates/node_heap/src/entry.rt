@@ -1,6 +1,7 @@
 //! The links of a row.
 ghost use Rattle.std.specs.Prelude.{◌<◌, [], length, take, ◌≡◌, ◌+◌, ◌-◌, ◌≤◌, slice_set, slice_index, insert, remove, IfSome};
-ghost use Rattle.node_heap.specs.Pairs.{only, without, with_link};
+ghost use Rattle.node_heap.specs.Links.{without, with_link};
+ghost use Rattle.node_heap.specs.Pairs.{only};
 
 use crate::row::Link;
 use std::marker::Model;
@@ -67,12 +68,25 @@ impl Model for RowLinks {
 
 impl RowLinks {
     /// No links.
+    #[inline(always)]
     pub fn new() -> RowLinks
         ensures { result ≡ [] }
     {
         RowLinks {
             len: 0,
             items: [Link::default(); 32],
+        }
+    }
+
+    // The first so many of these, at most 32.
+    #[inline(always)]
+    pub(crate) fn first(items: [Link; 32], len: u8) -> RowLinks
+        requires { len ≤ 32 }
+        ensures { result ≡ take len items }
+    {
+        RowLinks {
+            len: len as usize,
+            items,
         }
     }
 
@@ -86,7 +100,17 @@ impl RowLinks {
         kept
     }
 
+    // How many there are, and what they lie in, of which they are the first.
+    #[inline(always)]
+    pub(crate) fn parts(&self) -> (u8, [Link; 32])
+        ensures short { result.0 ≤ 32 }
+        ensures first { take result.0 result.1 ≡ self.now }
+    {
+        (self.len as u8, self.items)
+    }
+
     /// The links in order.
+    #[inline(always)]
     pub fn as_slice(&self) -> &[Link]
         ensures value { result.now ≡ self.now }
         ensures short { length result.now ≤ 32 }
@@ -95,27 +119,30 @@ impl RowLinks {
     }
 
     // Gives up all links.
+    #[inline(always)]
     pub(crate) fn clear(&mut self)
         ensures { self.new ≡ [] }
     {
         self.len = 0;
     }
 
-    // Gives up all links but the one at the index, if any.
-    pub(crate) fn keep_one(&mut self, index: Option<usize>)
-        requires { IfSome index (λ i. i < length self.old) }
-        ensures { self.new ≡ only index self.old }
+    // Puts the one at the index of these links in place of all, if any.
+    #[inline(always)]
+    pub(crate) fn copy_one(&mut self, links: &[Link], index: Option<usize>)
+        requires { IfSome index (λ i. i < length links.now) }
+        ensures { self.new ≡ only index links.now }
     {
         match index {
             None => self.len = 0,
             Some(index) => {
-                self.items[0] = self.items[index];
+                self.items[0] = links[index];
                 self.len = 1;
             }
         }
     }
 
     // Takes the link at the index out, if any.
+    #[inline(always)]
     pub(crate) fn take_out(&mut self, index: Option<usize>)
         requires { IfSome index (λ i. i < length self.old) }
         ensures { self.new ≡ without index self.old }
@@ -129,6 +156,7 @@ impl RowLinks {
     }
 
     // Puts the link at its index, if any.
+    #[inline(always)]
     pub(crate) fn put_in(&mut self, came: &Option<(usize, Link)>)
         requires index { IfSome came.now (λ c. c.0 ≤ length self.old) }
         requires room { IfSome came.now (λ _. length self.old < 32) }
@@ -140,7 +168,17 @@ impl RowLinks {
         }
     }
 
+    // Puts the link in place of the one at the index.
+    #[inline(always)]
+    pub(crate) fn replace(&mut self, index: usize, link: Link)
+        requires { index < length self.old }
+        ensures { self.new ≡ slice_set self.old index link }
+    {
+        let _ = replace_in(&mut self.items[..], self.len, index, link);
+    }
+
     /// Puts these links, at most 32, in place of all.
+    #[inline(always)]
     pub fn rewrite(&mut self, links: &[Link])
         requires { length links.now ≤ 32 }
         ensures { self.new ≡ links.now }
@@ -150,6 +188,7 @@ impl RowLinks {
     }
 
     /// Puts the link at the index, before those that stand there and after.
+    #[inline]
     pub fn insert(&mut self, index: usize, link: Link)
         requires index { index ≤ length self.old }
         requires room { length self.old < 32 }
@@ -160,6 +199,7 @@ impl RowLinks {
     }
 
     /// Takes the link at the index out.
+    #[inline]
     pub fn remove(&mut self, index: usize) -> Link
         requires { index < length self.old }
         ensures old { result ≡ slice_index self.old index }

@@ -1,11 +1,10 @@
 //! The heap and its calls.
 ghost use Rattle.std.specs.Prelude.{◌≡◌, ◌≢◌, ℕ, ◌+◌, ◌*◌, ◌∷◌, None, ◌-◌, ◌^◌, ◌<◌, ◌≤◌, ◌↔◌, [], length, Some, IsSome, OnOk, OnErr, IsOk, IsTrue, option_copied, option_map, List, slice_index, slice_set, insert, remove, IfSome};
-ghost use Rattle.node_heap.specs.Links.{count, Reaches};
+ghost use Rattle.node_heap.specs.Links.{count, HasLink, Reaches, without, changed_links, came};
 ghost use Rattle.node_heap.specs.Forms.{cell, node, links_of, value_of, head_of, is_cell, is_node};
 ghost use Rattle.node_heap.specs.Reads.{kind_said, sums_in, IsTrieForm};
 ghost use Rattle.node_heap.specs.Heap.{row_at, form_at, links_at, holds_at, owners_at, live_count, hold_count, one_at, HasSpares, IsGraph, most_holds};
 ghost use Rattle.node_heap.specs.Calls.{KeepsBelow, SameRows, Adds, AddsOwner, KeepsOwners, Makes, Releases, Extends, KeepsHeld, KeepsTrees, Unchanged, HasGreater, Builds, AddsLike};
-ghost use Rattle.node_heap.specs.Pairs.{without, changed_links, came};
 ghost use Rattle.node_heap.specs.InPlace.{child_at, other_at, Writes, Changes};
 ghost use Rattle.node_heap.specs.Layout.{graph_of, slot_at, owners_in, filled_count, Copies, IsCounted, IsDying, IsLow, Thins, cells_in, nodes_in};
 
@@ -85,11 +84,21 @@ impl<T> Heap<T> {
     }
 
     /// Whether a live link has one owner.
-    pub fn is_alone(&self, link: Link) -> bool
+    pub fn has_one_owner(&self, link: Link) -> bool
         requires { IsSome (row_at self.now link) }
         ensures { IsTrue result ↔ (owners_at self.now link ≡ 1) }
     {
         self.table.has_one_owner(link.place)
+    }
+
+    /// Whether a child of a row has one owner, which is its place there: what is asked of each row of a way.
+    #[inline]
+    pub fn child_has_one_owner(&self, parent: Link, child: Link) -> bool
+        requires live { IsSome (row_at self.now child) }
+        requires linked { HasLink (links_at self.now) parent child }
+        ensures { IsTrue result ↔ (owners_at self.now child ≡ 1) }
+    {
+        self.table.child_has_one_owner(parent.place, child.place)
     }
 
     /// Makes room, so that so many cells and so many nodes can be made without memory: the spares of each kind are then what
@@ -168,6 +177,7 @@ impl<T> Heap<T> {
     }
 
     /// One hold more of a live link. All holds together are below 2^60 before.
+    #[inline]
     pub fn hold(&mut self, link: Link)
         requires live { IsSome (row_at self.old link) }
         requires few { hold_count self.old < most_holds }
@@ -245,6 +255,7 @@ impl<T> Heap<T> {
     }
 
     /// The links of a live link's row, at most 32. A cell has none.
+    #[inline]
     pub fn links(&self, link: Link) -> &[Link]
         requires { IsSome (row_at self.now link) }
         ensures links { result.now ≡ links_of (row_at self.now link) }
@@ -268,7 +279,7 @@ impl<T> Heap<T> {
         ensures builds { Builds self.old self.new (link ∷ []) (result ∷ []) 0 1 }
         ensures makes { Makes self.old self.new 0 (other_at link result) }
     {
-        if self.table.is_alone(link.place) {
+        if self.table.held_has_one_owner(link.place) {
             return link;
         }
         let place = copied(&mut self.table, link.place);
@@ -297,7 +308,7 @@ impl<T> Heap<T> {
         ensures makes { Makes self.old self.new 0 (other_at (child_at self.old parent index) result) }
     {
         let child = self.table.links(parent.place)[index];
-        if self.table.is_alone_below(parent.place, child.place) {
+        if self.table.child_has_one_owner(parent.place, child.place) {
             return child;
         }
         let place = copied(&mut self.table, child.place);
@@ -371,6 +382,7 @@ impl<T> Heap<T> {
 
     /// A node like this one but for its head and the link at an index, made of a spare, which the caller holds once. It spends the new
     /// link's hold. The other links have an owner more, as if they were held for it.
+    #[inline(always)]
     pub fn with_replaced(&mut self, row: Link, head: Head, index: usize, new: Link) -> Link
         requires index { index < length (links_at self.old row) }
         requires held { 0 < holds_at self.old new }
@@ -381,6 +393,7 @@ impl<T> Heap<T> {
     }
 
     /// The same with the new link at an index, before those that stand there and after. The node has fewer than 32 links.
+    #[inline(never)]
     pub fn with_inserted(&mut self, row: Link, head: Head, index: usize, new: Link) -> Link
         requires node { is_node (row_at self.old row) ≡ 1 }
         requires index { index ≤ length (links_at self.old row) }
@@ -393,6 +406,7 @@ impl<T> Heap<T> {
     }
 
     /// The same without the link at an index. All holds together are below 2^60 before.
+    #[inline]
     pub fn with_removed(&mut self, row: Link, head: Head, index: usize) -> Link
         requires index { index < length (links_at self.old row) }
         requires spare { 0 < self.old.spare_nodes }
@@ -403,6 +417,7 @@ impl<T> Heap<T> {
     }
 
     /// The same without the link at one index, and with the new link at an index of those that are left.
+    #[inline]
     pub fn with_turned(
         &mut self,
         row: Link,
@@ -421,6 +436,7 @@ impl<T> Heap<T> {
     }
 
     // A node that is made of this one by one change: one link out, if any, and one in, if any.
+    #[inline(always)]
     fn changed(
         &mut self,
         row: Link,
@@ -437,8 +453,8 @@ impl<T> Heap<T> {
         requires few { into ≡ None → hold_count self.old < most_holds }
         ensures adds { AddsLike self.old self.new result (node head (changed_links out into (links_at self.old row))) (without out (links_at self.old row)) (came into) }
     {
-        self.made = self.made.saturating_add(1);
         let place = self.table.put_changed(row.place, head, out, &into);
+        self.made = self.made.saturating_add(1);
         Link { place }
     }
 }
@@ -488,6 +504,7 @@ fn free_waiting<T: Drop>(table: &mut Shared<T>, first: usize)
 }
 
 // A copy of the node at the place, with one owner, and one owner more for each place of its links.
+#[inline(never)]
 fn copied<T>(table: &mut Shared<T>, place: usize) -> usize
     requires counted { IsCounted table.old.slots }
     requires node { is_node (graph_of table.old.slots place) ≡ 1 }

@@ -11,6 +11,7 @@ mod heap;
 mod laws;
 mod lists;
 mod nodes;
+mod owner;
 mod pairs;
 mod rooms;
 mod row;
@@ -28,4 +29,5 @@ pub use laws::{
     alone_rows_stay, changes_add_up, changes_keep_the_rest, edits_by_an_owner, gains_add_up,
     owned_rows_keep_off, rows_are_owned, rows_come_and_go, unfolds_to_one_tree,
 };
+pub use owner::{Owner, own_root, root_of};
 pub use row::{Head, Kind, Link, MOST_HEIGHT, Sums, TrieRef};

@@ -2,6 +2,7 @@
 ghost use Rattle.std.specs.Prelude.{vec_len, vec_capacity, ◌≡◌, ◌+◌, ◌<◌, ◌≤◌, [], ◌∷◌, ◌++◌, length, Some, None, IsSome, OnOk, IsOk, slice_index_or, slice_set};
 ghost use Rattle.node_heap.specs.Heap.{row_limit};
 ghost use Rattle.node_heap.specs.Inside.{IsFree, FillsSlot, Covers};
+ghost use Rattle.node_heap.specs.Nodes.{node_links};
 ghost use Rattle.node_heap.specs.Small.{here};
 
 use crate::row::Link;
@@ -184,6 +185,7 @@ pub(crate) fn empty_small<S: Copy, const N: usize>(
 }
 
 // Puts a slot with this node, which has one owner, behind the others.
+#[inline(never)]
 fn push_large<L: Copy>(large: &mut Vec<LargeSlot<L>>, head: L, links: &[Link])
     requires room { vec_len large.old < vec_capacity large.old }
     requires short { length links.now ≤ 32 }
@@ -198,6 +200,7 @@ fn push_large<L: Copy>(large: &mut Vec<LargeSlot<L>>, head: L, links: &[Link])
 }
 
 // Puts a node with one owner and these links in a free slot, or in a new one where none is free. Answers which.
+#[inline(always)]
 pub(crate) fn put_large<L: Copy>(
     large: &mut Vec<LargeSlot<L>>,
     free: &mut Vec<usize>,
@@ -224,7 +227,61 @@ pub(crate) fn put_large<L: Copy>(
     }
 }
 
+// Puts a slot with a node behind the others, with one owner and the links of the one in the slot `from`, but for the link at the index.
+// It is apart from what is done mostly, as are its like: what a function holds is cleared when it begins.
+#[inline(never)]
+fn push_beside<L: Copy>(
+    large: &mut Vec<LargeSlot<L>>,
+    head: L,
+    from: usize,
+    index: usize,
+    link: Link,
+)
+    requires room { vec_len large.old < vec_capacity large.old }
+    requires index { index < length (node_links (slice_index_or large.old.items from None)) }
+    ensures items { large.new.items ≡ large.old.items ++ Some (record { owners = 1; head = head; links = slice_set (node_links (slice_index_or large.old.items from None)) index link }) ∷ [] }
+    ensures len { vec_len large.new ≡ vec_len large.old + 1 }
+    ensures capacity { vec_capacity large.new ≡ vec_capacity large.old }
+{
+    let mut links = large[from].row_links();
+    links.replace(index, link);
+    push_large(large, head, links.as_slice());
+}
+
+// Puts a node with one owner and the links of the one in the slot `from`, but for the link at the index, in a free slot, or in a new
+// one where none is free. Answers which.
+#[inline(always)]
+pub(crate) fn put_beside<L: Copy>(
+    large: &mut Vec<LargeSlot<L>>,
+    free: &mut Vec<usize>,
+    head: L,
+    from: usize,
+    index: usize,
+    link: Link,
+) -> usize
+    requires free { IsFree large.old.items free.old.items }
+    requires room { vec_len large.old < vec_capacity large.old + vec_len free.old }
+    requires index { index < length (node_links (slice_index_or large.old.items from None)) }
+    ensures fills { FillsSlot large.old.items free.old.items large.new.items free.new.items result (record { owners = 1; head = head; links = slice_set (node_links (slice_index_or large.old.items from None)) index link }) }
+    ensures capacity { vec_capacity large.new ≡ vec_capacity large.old }
+    ensures free_capacity { vec_capacity free.new ≡ vec_capacity free.old }
+{
+    match free.pop() {
+        Some(place) => {
+            let links = large[from].row_links();
+            large[place].fill_but(head, &links, index, link);
+            place
+        }
+        None => {
+            let place = large.len();
+            push_beside(large, head, from, index, link);
+            place
+        }
+    }
+}
+
 // Gives up the node in the slot, which is free then.
+#[inline(always)]
 pub(crate) fn empty_large<L: Copy>(
     large: &mut Vec<LargeSlot<L>>,
     free: &mut Vec<usize>,

@@ -1,5 +1,5 @@
 //! The nodes of a heap: index 2i is index i of those that are made as no row of a trie, and index 2i + 1 index i of the rows of tries.
-ghost use Rattle.std.specs.Prelude.{◌≡◌, ℕ, ◌+◌, ◌*◌, ◌<◌, ◌≤◌, [], length, Some, None, IsSome, OnOk, OnErr, IsOk, option_map, count_by, is_some, slice_index, slice_set, insert, remove};
+ghost use Rattle.std.specs.Prelude.{◌≡◌, ℕ, ◌+◌, ◌*◌, ◌%◌, ◌<◌, ◌≤◌, [], length, Some, None, IsSome, OnOk, OnErr, IsOk, option_map, count_by, is_some, slice_index, slice_set, insert, remove};
 ghost use Rattle.node_heap.specs.Heap.{row_limit};
 ghost use Rattle.std.specs.Borrow.{sem};
 ghost use Rattle.node_heap.specs.Forms.{kind_of, sums_of};
@@ -92,6 +92,7 @@ impl Nodes {
     }
 
     // Makes a node of a spare, with one owner and these links, at most 32. Answers its index.
+    #[inline(always)]
     pub(crate) fn put(&mut self, head: Head, links: &[Link]) -> usize
         requires spare { 0 < self.old.spares }
         requires short { length links.now ≤ 32 }
@@ -108,6 +109,31 @@ impl Nodes {
             Head::Trie { .. } => 2 * self.tries.put(head, links) + 1,
             _ => 2 * self.rows.put(head, links),
         }
+    }
+
+    // Makes a node of a spare, with one owner and the links of the one at the index `from`, but for the link at the position. Both lie in
+    // large slots, and neither was made as a row of a trie. Answers its index.
+    #[inline(always)]
+    pub(crate) fn put_beside(
+        &mut self,
+        head: Head,
+        from: usize,
+        position: usize,
+        link: Link,
+    ) -> usize
+        requires spare { 0 < self.old.spares }
+        requires large { from % 4 ≡ 2 }
+        requires position { position < length (node_links (node_at self.old.slots from)) }
+        ensures was { node_at self.old.slots result ≡ None }
+        ensures now { node_at self.new.slots result ≡ Some (record { owners = 1; head = head; links = slice_set (node_links (node_at self.old.slots from)) position link }) }
+        ensures others { SameBut self.old.slots self.new.slots result }
+        ensures len { count_by is_some self.new.slots ≡ count_by is_some self.old.slots + 1 }
+        ensures spares { self.new.spares + 1 ≡ self.old.spares }
+        ensures low { result < 8 * row_limit }
+    {
+        self.spares -= 1;
+        self.len += 1;
+        2 * self.rows.put_beside(head, from / 2, position, link)
     }
 
     // The owners of the node at the index.
@@ -229,6 +255,19 @@ impl Nodes {
         self.head(index).copy()
     }
 
+    // The links of the node at the index, as a list of their own.
+    #[inline(always)]
+    pub(crate) fn row_links(&self, index: usize) -> RowLinks
+        requires { IsSome (node_at self.now.slots index) }
+        ensures { result ≡ node_links (node_at self.now.slots index) }
+    {
+        if index % 2 == 0 {
+            self.rows.row_links(index / 2)
+        } else {
+            self.tries.row_links(index / 2)
+        }
+    }
+
     // Puts the link in place of the one at the position, which it answers.
     pub(crate) fn replace_link(&mut self, index: usize, position: usize, link: Link) -> Link
         requires { position < length (node_links (node_at self.old.slots index)) }
@@ -286,6 +325,7 @@ impl Nodes {
     }
 
     // Gives up the node at the index, which is a spare then.
+    #[inline(always)]
     pub(crate) fn free(&mut self, index: usize)
         requires { IsSome (node_at self.old.slots index) }
         ensures gone { node_at self.new.slots index ≡ None }

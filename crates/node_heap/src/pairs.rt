@@ -1,14 +1,14 @@
-//! Rows that share owners. A row that is made of another by one change has all other links in common with it: the two are a pair
+//! Pairs of rows, whose common links have one owner for both. A row that is made of another by one change has all other links in common with it: the two are a pair
 //! then, and each common link keeps one owner for both.
 ghost use Rattle.std.specs.Prelude.{◌≡◌, ◌==◌, ◌⊎◌, ◌+◌, ◌-◌, ◌*◌, ◌^◌, ◌<◌, ◌≤◌, ℕ, [], length, Some, None, IsSome, IfSome, IfNone, OnOk, OnErr, IsOk, option_copied, option_map, slice_index, slice_index_or, slice_set, insert, remove};
 ghost use Rattle.std.specs.List.{All};
 ghost use Rattle.arrayvec.specs.ArrayVec.{array_vec_len};
-ghost use Rattle.node_heap.specs.Links.{count};
+ghost use Rattle.node_heap.specs.Links.{count, without, changed_links};
 ghost use Rattle.node_heap.specs.Forms.{cell, node, links_of, value_of, head_of, kind_of, is_node};
 ghost use Rattle.node_heap.specs.Heap.{row_limit};
 ghost use Rattle.node_heap.specs.Reads.{kind_said, sums_in};
 ghost use Rattle.node_heap.specs.Layout.{graph_of, slot_at, owners_in, places_at, rows_of_slots, filled_count, SetsOwners, Rewrites, PutsIn, KeepsRoom, IsDying, IsLow};
-ghost use Rattle.node_heap.specs.Pairs.{without, changed_links, common_at, paired, no_pair, own_in, IsOf, HasNoPair, LeavesPair, more, IsSharing, CountsAlike, GivesUp, MakesOf};
+ghost use Rattle.node_heap.specs.Pairs.{common_at, paired, no_pair, own_in, IsOf, HasNoPair, LeavesPair, more, IsSharing, CountsAlike, GivesUp, MakesOf};
 ghost use Rattle.node_heap.specs.declared.row.Head.TheVariants.{Trie};
 
 use crate::entry::RowLinks;
@@ -34,6 +34,7 @@ pub(crate) struct Pair {
 
 impl Pair {
     // Where the own link of the row stands, if it has one.
+    #[inline(always)]
     fn own_of(&self, place: usize) -> Option<usize>
         ensures { result ≡ own_in place self.now }
     {
@@ -132,6 +133,7 @@ impl<T> Shared<T> {
 
     // A node that is made of the one at the place by one change, of a spare: without the link at the index `out`, if any, and
     // with a link at an index of those that are left, if any. It has one owner, and the links that stay have one more each. Answers its place.
+    #[inline(always)]
     pub(crate) fn put_changed(
         &mut self,
         place: usize,
@@ -148,13 +150,9 @@ impl<T> Shared<T> {
         requires spare { 0 < self.old.spare_nodes }
         ensures makes { MakesOf self.old self.new result (node head (changed_links out into.now (links_of (graph_of self.old.slots place)))) (without out (links_of (graph_of self.old.slots place))) }
     {
-        let mut links = RowLinks::new();
-        self.table.copy_links(place, &mut links);
-        links.take_out(out);
-        links.put_in(into);
         part_row(&mut self.table, &mut self.pairs, place);
         make_room(&mut self.table, &mut self.pairs);
-        let made = self.table.put_node(head, links.as_slice());
+        let made = put_row(&mut self.table, place, head, out, into);
         self.pairs.push(Pair {
             before: Link { place },
             after: Link { place: made },
@@ -174,7 +172,7 @@ impl<T> Shared<T> {
     }
 
     // Whether the row has one owner. One of its owners is no place.
-    pub(crate) fn is_alone(&self, place: usize) -> bool
+    pub(crate) fn held_has_one_owner(&self, place: usize) -> bool
         requires live { IsSome (slot_at self.now.slots place) }
         requires held { places_at self.now.slots place < owners_in (slot_at self.now.slots place) }
         ensures { result ≡ (owners_in (slot_at self.now.slots place) == 1) }
@@ -197,7 +195,7 @@ impl<T> Shared<T> {
     }
 
     // Whether the child, which stands in the parent's row, has one owner.
-    pub(crate) fn is_alone_below(&self, parent: usize, child: usize) -> bool
+    pub(crate) fn child_has_one_owner(&self, parent: usize, child: usize) -> bool
         requires live { IsSome (slot_at self.now.slots child) }
         requires linked { 0 < count child (links_of (graph_of self.now.slots parent)) }
         requires counted { places_at self.now.slots child ≤ owners_in (slot_at self.now.slots child) }
@@ -237,6 +235,7 @@ impl<T> Shared<T> {
     }
 
     // Takes an owner from each of the links, and puts those that have none then in front of the rows that wait.
+    #[inline(always)]
     pub(crate) fn drop_places(&mut self, links: &[Link], first: usize) -> usize
         requires dying { (H : ℕ → ℕ) × IsDying H self.old.slots first links.now }
         requires low { IsLow self.old.slots }
@@ -359,19 +358,85 @@ impl<T> Shared<T> {
 impl<T: Drop> Shared<T> {
     // Takes the row at the place out, to which no row leads. It is a spare of its kind then. Answers its owners, and puts the links that lose
     // an owner in the list: all of its own, or the one that the other row of its pair doesn't have.
+    #[inline(always)]
     pub(crate) fn take(&mut self, place: usize, links: &mut RowLinks) -> usize
         requires live { IsSome (slot_at self.old.slots place) }
         requires unplaced { places_at self.old.slots place ≡ 0 }
         ensures owners { result ≡ owners_in (slot_at self.old.slots place) }
         ensures gives { GivesUp self.old self.new place links.new }
     {
-        let owners = self.table.take(place, links);
-        leave_pair(&mut self.pairs, place, links);
-        owners
+        leave_pair(&self.table, &mut self.pairs, place, links);
+        self.table.take(place)
+    }
+}
+
+// A node that is made of the one at the place by one change, of a spare, with one owner. Answers its place.
+#[inline(always)]
+fn put_row<T>(
+    table: &mut Table<T>,
+    place: usize,
+    head: Head,
+    out: Option<usize>,
+    into: &Option<(usize, Link)>,
+) -> usize
+    requires live { IsSome (slot_at table.old.slots place) }
+    requires out { IfSome out (λ i. i < length (links_of (graph_of table.old.slots place))) }
+    requires into { IfSome into.now (λ i. i.0 ≤ length (without out (links_of (graph_of table.old.slots place)))) }
+    requires short { length (changed_links out into.now (links_of (graph_of table.old.slots place))) ≤ 32 }
+    requires spare { 0 < table.old.spare_nodes }
+    ensures puts { PutsIn table.old.slots table.new.slots result (node head (changed_links out into.now (links_of (graph_of table.old.slots place)))) }
+    ensures spare_cells { table.new.spare_cells ≡ table.old.spare_cells }
+    ensures spare_nodes { table.new.spare_nodes + 1 ≡ table.old.spare_nodes }
+{
+    match in_place(out, into) {
+        Some(came) => table.put_beside(place, head, came.0, came.1),
+        None => put_moved(table, place, head, out, into),
+    }
+}
+
+// The same by a list of the links.
+#[inline(never)]
+fn put_moved<T>(
+    table: &mut Table<T>,
+    place: usize,
+    head: Head,
+    out: Option<usize>,
+    into: &Option<(usize, Link)>,
+) -> usize
+    requires live { IsSome (slot_at table.old.slots place) }
+    requires out { IfSome out (λ i. i < length (links_of (graph_of table.old.slots place))) }
+    requires into { IfSome into.now (λ i. i.0 ≤ length (without out (links_of (graph_of table.old.slots place)))) }
+    requires short { length (changed_links out into.now (links_of (graph_of table.old.slots place))) ≤ 32 }
+    requires spare { 0 < table.old.spare_nodes }
+    ensures puts { PutsIn table.old.slots table.new.slots result (node head (changed_links out into.now (links_of (graph_of table.old.slots place)))) }
+    ensures spare_cells { table.new.spare_cells ≡ table.old.spare_cells }
+    ensures spare_nodes { table.new.spare_nodes + 1 ≡ table.old.spare_nodes }
+{
+    let mut links = table.row_links(place);
+    links.take_out(out);
+    links.put_in(into);
+    table.put_node(head, links.as_slice())
+}
+
+// The link that comes in the place of the one that goes, so that no other moves, if it is so.
+#[inline(always)]
+fn in_place(out: Option<usize>, into: &Option<(usize, Link)>) -> Option<(usize, Link)>
+    ensures gone { IfSome result (λ i. out ≡ Some i.0) }
+    ensures came { IfSome result (λ i. into.now ≡ Some i) }
+{
+    let gone = out?;
+    match into {
+        None => None,
+        Some(came) => if came.0 == gone {
+            Some((gone, came.1))
+        } else {
+            None
+        },
     }
 }
 
 // Where the link is put in.
+#[inline(always)]
 fn place_of(came: &Option<(usize, Link)>) -> Option<usize>
     ensures { result ≡ option_map (λ (c : ℕ × ℕ). c.0) came.now }
 {
@@ -382,34 +447,64 @@ fn place_of(came: &Option<(usize, Link)>) -> Option<usize>
 }
 
 // The pair of the row, if any.
+#[inline(always)]
 fn pair_of(pairs: &[Pair], place: usize) -> Option<usize>
     ensures there { IfSome result (λ i. i < length pairs.now) }
     ensures found { IfSome result (λ i. IsOf place (slice_index_or pairs.now i no_pair)) }
     ensures none { IfNone result (count place (paired pairs.now) ≡ 0) }
 {
-    let mut index = 0;
-    while index < pairs.len() {
-        let pair = &pairs[index];
+    // Mostly it is among the last.
+    let mut left = pairs.len();
+    while left > 0 {
+        left -= 1;
+        let pair = &pairs[left];
         if pair.before.place == place || pair.after.place == place {
-            return Some(index);
+            return Some(left);
         }
-        index += 1;
     }
     None
 }
 
-// The row's pair goes, if it has one, and of its links the one is left that the other row doesn't have.
-fn leave_pair(pairs: &mut ArrayVec<Pair, PAIRS>, place: usize, links: &mut RowLinks)
-    requires { All (λ p. IsOf place p → IfSome (own_in place p) (λ i. i < length links.old)) pairs.old.items }
-    ensures { HasNoPair place pairs.old.items links.old pairs.new.items links.new ⊎ LeavesPair place pairs.old.items links.old pairs.new.items links.new }
+// The row's pair goes, if it has one. Puts its links in the list, or of a row of a pair the one that the other row doesn't have.
+#[inline(always)]
+fn leave_pair<T>(
+    table: &Table<T>,
+    pairs: &mut ArrayVec<Pair, PAIRS>,
+    place: usize,
+    links: &mut RowLinks,
+)
+    requires live { IsSome (slot_at table.now.slots place) }
+    requires inside { All (λ p. IsOf place p → IfSome (own_in place p) (λ i. i < length (links_of (graph_of table.now.slots place)))) pairs.old.items }
+    ensures { HasNoPair place pairs.old.items (links_of (graph_of table.now.slots place)) pairs.new.items links.new ⊎ LeavesPair place pairs.old.items (links_of (graph_of table.now.slots place)) pairs.new.items links.new }
 {
-    if let Some(index) = pair_of(pairs.as_slice(), place) {
-        let pair = pairs.remove(index);
-        links.keep_one(pair.own_of(place));
+    match pair_of(pairs.as_slice(), place) {
+        None => table.copy_links(place, links),
+        Some(index) => {
+            let pair = take_pair(pairs, index);
+            links.copy_one(table.links(place), pair.own_of(place));
+        }
+    }
+}
+
+// Takes the pair at the index out, which is mostly the last.
+#[inline(always)]
+fn take_pair(pairs: &mut ArrayVec<Pair, PAIRS>, index: usize) -> Pair
+    requires { index < array_vec_len pairs.old }
+    ensures value { result ≡ slice_index_or pairs.old.items index result }
+    ensures items { pairs.new.items ≡ remove pairs.old.items index }
+{
+    let count = pairs.len();
+    if index + 1 < count {
+        return pairs.remove(index);
+    }
+    match pairs.pop() {
+        Some(last) => last,
+        None => unreachable!(),
     }
 }
 
 // How often the row's link is common to both rows of a pair.
+#[inline(never)]
 fn left_out<T>(table: &Table<T>, pairs: &[Pair], place: usize) -> usize
     requires sharing { IsSharing table.now.slots pairs.now }
     requires fits { common_at table.now.slots pairs.now place < 2 ^ 64 }
@@ -451,6 +546,7 @@ fn places_of(links: &[Link], place: usize) -> usize
 }
 
 // Before a row is written, its pair is parted, if it has one.
+#[inline(always)]
 fn part_row<T>(table: &mut Table<T>, pairs: &mut ArrayVec<Pair, PAIRS>, place: usize)
     requires sharing { IsSharing table.old.slots pairs.old.items }
     requires room { (l : ℕ) → owners_in (slot_at table.old.slots l) + common_at table.old.slots pairs.old.items l < 2 ^ 64 }
@@ -464,6 +560,7 @@ fn part_row<T>(table: &mut Table<T>, pairs: &mut ArrayVec<Pair, PAIRS>, place: u
 }
 
 // Where there are as many pairs as may be, one is parted.
+#[inline(always)]
 fn make_room<T>(table: &mut Table<T>, pairs: &mut ArrayVec<Pair, PAIRS>)
     requires sharing { IsSharing table.old.slots pairs.old.items }
     requires room { (l : ℕ) → owners_in (slot_at table.old.slots l) + common_at table.old.slots pairs.old.items l < 2 ^ 64 }
@@ -478,6 +575,7 @@ fn make_room<T>(table: &mut Table<T>, pairs: &mut ArrayVec<Pair, PAIRS>)
 }
 
 // The rows of the pair count each for itself then: each common link has an owner more, and the pair goes.
+#[inline(never)]
 fn part<T>(table: &mut Table<T>, pairs: &mut ArrayVec<Pair, PAIRS>, index: usize)
     requires index { index < array_vec_len pairs.old }
     requires sharing { IsSharing table.old.slots pairs.old.items }
@@ -487,8 +585,7 @@ fn part<T>(table: &mut Table<T>, pairs: &mut ArrayVec<Pair, PAIRS>, index: usize
     ensures pairs { pairs.new.items ≡ remove pairs.old.items index }
 {
     let pair = pairs.remove(index);
-    let mut links = RowLinks::new();
-    table.copy_links(pair.before.place, &mut links);
+    let mut links = table.row_links(pair.before.place);
     links.take_out(pair.out);
     add_owners(table, links.as_slice());
 }
@@ -508,6 +605,7 @@ fn add_owners<T>(table: &mut Table<T>, links: &[Link])
 
 // Takes an owner from each of the links, and puts those that have none then in front of the rows that wait. A link that is common to so many
 // pairs has so many owners more than are stored, and twice as many places.
+#[inline(always)]
 fn drop_places<T>(table: &mut Table<T>, links: &[Link], first: usize) -> usize
     requires dying { (H C : ℕ → ℕ) × ((l : ℕ) → 2 * C l ≤ places_at table.old.slots l) × IsDying H (more C 0 table.old.slots) first links.now }
     requires low { IsLow table.old.slots }

@@ -6,7 +6,7 @@ ghost use Rattle.std.specs.Borrow.{sem};
 ghost use Rattle.node_heap.specs.Nodes.{SameBut, node_at, node_owners, node_head, node_links, Becomes};
 
 use crate::entry::RowLinks;
-use crate::lists::{cover, empty_large, empty_small, put_large, put_small};
+use crate::lists::{cover, empty_large, empty_small, put_beside, put_large, put_small};
 use crate::row::Link;
 use crate::slot_kinds::{LargeSlot, SmallSlot};
 use std::alloc::{AllocError, Global};
@@ -94,6 +94,7 @@ impl<S: SmallHead<L>, L: Copy, const N: usize> Rooms<S, L, N> {
     }
 
     // Makes a node with one owner and these links, at most 32, in a small slot where it fits. Answers its index.
+    #[inline(always)]
     pub(crate) fn put(&mut self, head: L, fit: Option<S>, links: &[Link]) -> usize
         requires memory { SmallSlotFits S.row N.row }
         requires room { count_by is_some self.old.slots < self.old.room }
@@ -112,6 +113,30 @@ impl<S: SmallHead<L>, L: Copy, const N: usize> Rooms<S, L, N> {
             Some(head) => 2 * put_small(&mut self.small, &mut self.free_small, head, links),
             None => 2 * put_large(&mut self.large, &mut self.free_large, head, links) + 1,
         }
+    }
+
+    // Makes a node with one owner and the links of the one at the index `from`, but for the link at the position. Both lie in large slots.
+    // Answers its index.
+    #[inline(always)]
+    pub(crate) fn put_beside(&mut self, head: L, from: usize, position: usize, link: Link) -> usize
+        requires room { count_by is_some self.old.slots < self.old.room }
+        requires large { from % 2 ≡ 1 }
+        requires position { position < length (node_links (node_at self.old.slots from)) }
+        ensures was { node_at self.old.slots result ≡ None }
+        ensures now { node_at self.new.slots result ≡ Some (record { owners = 1; head = head; links = slice_set (node_links (node_at self.old.slots from)) position link }) }
+        ensures others { SameBut self.old.slots self.new.slots result }
+        ensures len { count_by is_some self.new.slots ≡ count_by is_some self.old.slots + 1 }
+        ensures room { self.new.room ≡ self.old.room }
+        ensures low { result < 2 * self.old.room }
+    {
+        2 * put_beside(
+            &mut self.large,
+            &mut self.free_large,
+            head,
+            from / 2,
+            position,
+            link,
+        ) + 1
     }
 
     // The owners of the node at the index.
@@ -177,6 +202,21 @@ impl<S: SmallHead<L>, L: Copy, const N: usize> Rooms<S, L, N> {
             Some(room) => self.moved[room].links(),
             None => small.links(),
         }
+    }
+
+    // The links of the node at the index, as a list of their own.
+    #[inline(always)]
+    pub(crate) fn row_links(&self, index: usize) -> RowLinks
+        requires memory { SmallSlotFits S.row N.row }
+        requires width { N ≤ 32 }
+        requires live { IsSome (node_at self.now.slots index) }
+        ensures { result ≡ node_links (node_at self.now.slots index) }
+    {
+        // A large slot has as much room as the list.
+        if index % 2 != 0 {
+            return self.large[index / 2].row_links();
+        }
+        RowLinks::from_slice(self.links(index))
     }
 
     // Puts the link in place of the one at the position, which it answers.
@@ -306,6 +346,7 @@ impl<S: SmallHead<L>, L: Copy, const N: usize> Rooms<S, L, N> {
     }
 
     // Gives up the node at the index.
+    #[inline(always)]
     pub(crate) fn free(&mut self, index: usize)
         requires memory { SmallSlotFits S.row N.row }
         requires live { IsSome (node_at self.old.slots index) }

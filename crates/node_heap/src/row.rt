@@ -39,6 +39,7 @@ impl Model for Sums {
 
 impl Sums {
     /// These sums, at most 32.
+    #[inline(always)]
     pub fn from_slice(items: &[u32]) -> Sums
         requires { length items.now ≤ 32 }
         ensures { result ≡ items.now }
@@ -52,6 +53,7 @@ impl Sums {
     }
 
     /// The sums in order.
+    #[inline(always)]
     pub fn as_slice(&self) -> &[u32]
         ensures value { result.now ≡ self.now }
         ensures short { length result.now ≤ 32 }

@@ -1,5 +1,5 @@
 //! The nodes that are made as no row of a trie: their rooms, and apart from these the heads that say more than a tag does.
-ghost use Rattle.std.specs.Prelude.{◌≡◌, ℕ, ◌+◌, ◌*◌, ◌<◌, ◌≤◌, [], length, Some, None, IsSome, OnOk, option_map, count_by, is_some, slice_index, slice_set, insert, remove};
+ghost use Rattle.std.specs.Prelude.{◌≡◌, ℕ, ◌+◌, ◌*◌, ◌%◌, ◌<◌, ◌≤◌, [], length, Some, None, IsSome, OnOk, option_map, count_by, is_some, slice_index, slice_set, insert, remove};
 ghost use Rattle.node_heap.specs.Heap.{row_limit};
 ghost use Rattle.std.specs.Borrow.{sem};
 ghost use Rattle.node_heap.specs.Tags.{few_tag};
@@ -7,6 +7,7 @@ ghost use Rattle.node_heap.specs.Forms.{kind_of, sums_of};
 ghost use Rattle.node_heap.specs.Reads.{kind_said};
 ghost use Rattle.node_heap.specs.Nodes.{SameBut, node_at, node_owners, node_head, node_links, Becomes};
 
+use crate::entry::RowLinks;
 use crate::lists::{cover, put, set_slot, slot, vacate};
 use crate::rooms::Rooms;
 use crate::row::{Head, Kind, Link};
@@ -73,6 +74,7 @@ impl Rows {
     }
 
     // Makes a node with one owner and these links, at most 32. Answers its index.
+    #[inline(always)]
     pub(crate) fn put(&mut self, head: Head, links: &[Link]) -> usize
         requires room { count_by is_some self.old.slots < self.old.room }
         requires short { length links.now ≤ 32 }
@@ -92,7 +94,52 @@ impl Rows {
         }
     }
 
+    // Makes a node with one owner and the links of the one at the index `from`, but for the link at the position. Both lie in large slots.
+    // Answers its index.
+    #[inline(always)]
+    pub(crate) fn put_beside(
+        &mut self,
+        head: Head,
+        from: usize,
+        position: usize,
+        link: Link,
+    ) -> usize
+        requires room { count_by is_some self.old.slots < self.old.room }
+        requires large { from % 2 ≡ 1 }
+        requires position { position < length (node_links (node_at self.old.slots from)) }
+        ensures was { node_at self.old.slots result ≡ None }
+        ensures now { node_at self.new.slots result ≡ Some (record { owners = 1; head = head; links = slice_set (node_links (node_at self.old.slots from)) position link }) }
+        ensures others { SameBut self.old.slots self.new.slots result }
+        ensures len { count_by is_some self.new.slots ≡ count_by is_some self.old.slots + 1 }
+        ensures room { self.new.room ≡ self.old.room }
+        ensures low { result < 2 * self.old.room }
+    {
+        match tag_of(&head) {
+            Some(tag) => self.rooms.put_beside(tag, from, position, link),
+            None => self.put_beside_apart(head, from, position, link),
+        }
+    }
+
+    // The same with the head apart.
+    #[inline(never)]
+    fn put_beside_apart(&mut self, head: Head, from: usize, position: usize, link: Link) -> usize
+        requires room { count_by is_some self.old.slots < self.old.room }
+        requires large { from % 2 ≡ 1 }
+        requires position { position < length (node_links (node_at self.old.slots from)) }
+        ensures was { node_at self.old.slots result ≡ None }
+        ensures now { node_at self.new.slots result ≡ Some (record { owners = 1; head = head; links = slice_set (node_links (node_at self.old.slots from)) position link }) }
+        ensures others { SameBut self.old.slots self.new.slots result }
+        ensures len { count_by is_some self.new.slots ≡ count_by is_some self.old.slots + 1 }
+        ensures room { self.new.room ≡ self.old.room }
+        ensures low { result < 2 * self.old.room }
+    {
+        let place = put(&mut self.heads, &mut self.free_heads, head);
+        self.rooms
+            .put_beside(Tag::Apart { place }, from, position, link)
+    }
+
     // The owners of the node at the index.
+    #[inline(always)]
     pub(crate) fn owners(&self, index: usize) -> usize
         requires { IsSome (node_at self.now.slots index) }
         ensures { result ≡ node_owners (node_at self.now.slots index) }
@@ -101,6 +148,7 @@ impl Rows {
     }
 
     // The owners of the node at the index, for writing.
+    #[inline(always)]
     pub(crate) fn owners_mut(&mut self, index: usize) -> &mut usize
         requires { IsSome (node_at self.old.slots index) }
         ensures* writes_back { sem 𝓛 (LendsRowOwners self.entry index result) }
@@ -161,6 +209,15 @@ impl Rows {
         self.rooms.links(index)
     }
 
+    // The links of the node at the index, as a list of their own.
+    #[inline(always)]
+    pub(crate) fn row_links(&self, index: usize) -> RowLinks
+        requires { IsSome (node_at self.now.slots index) }
+        ensures { result ≡ node_links (node_at self.now.slots index) }
+    {
+        self.rooms.row_links(index)
+    }
+
     // Puts the link in place of the one at the position, which it answers.
     pub(crate) fn replace_link(&mut self, index: usize, position: usize, link: Link) -> Link
         requires { position < length (node_links (node_at self.old.slots index)) }
@@ -212,6 +269,7 @@ impl Rows {
     }
 
     // Gives up the node at the index.
+    #[inline(always)]
     pub(crate) fn free(&mut self, index: usize)
         requires { IsSome (node_at self.old.slots index) }
         ensures gone { node_at self.new.slots index ≡ None }
@@ -229,6 +287,7 @@ impl Rows {
 }
 
 // The tag in a small slot, where the links fit there too.
+#[inline(always)]
 fn fit(tag: &Tag, links: &[Link]) -> Option<FewHead>
     ensures head { (f : FewHead) → result ≡ Some f → few_tag f ≡ tag.now }
     ensures links { (f : FewHead) → result ≡ Some f → length links.now ≤ 2 }

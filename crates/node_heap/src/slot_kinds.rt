@@ -4,7 +4,7 @@ ghost use Rattle.std.specs.Borrow.{sem};
 ghost use Rattle.node_heap.specs.Nodes.{node_owners, node_head, node_links, with_links};
 ghost use Rattle.node_heap.specs.Small.{cell_owners, cell_value, here, moved, room_in};
 
-use crate::entry::{insert_in, remove_in, replace_in};
+use crate::entry::{RowLinks, insert_in, remove_in, replace_in};
 use crate::row::Link;
 use elem_core::Num;
 use std::marker::Model;
@@ -45,6 +45,7 @@ impl<T> CellSlot<T> {
     }
 
     // Puts a cell with one owner where nothing is.
+    #[inline(always)]
     pub(crate) fn fill(&mut self, value: T)
         requires { self.old ≡ None }
         ensures { self.new ≡ Some (record { owners = 1; value = value }) }
@@ -231,6 +232,7 @@ impl<S: Copy, const N: usize> SmallSlot<S, N> {
     }
 
     // Writes this node over what lay here.
+    #[inline(always)]
     pub(crate) fn fill(&mut self, owners: usize, head: S, links: &[Link])
         requires few { length links.now ≤ N }
         requires fits { N < 256 }
@@ -398,6 +400,7 @@ impl<L: Copy> LargeSlot<L> {
     }
 
     // Writes this node, which has one owner, over what lay here.
+    #[inline(always)]
     pub(crate) fn fill(&mut self, head: L, links: &[Link])
         requires { length links.now ≤ 32 }
         ensures { self.new ≡ Some (record { owners = 1; head = head; links = links.now }) }
@@ -407,6 +410,22 @@ impl<L: Copy> LargeSlot<L> {
         self.len = links.len() as u8;
         self.head = head;
         self.links[..links.len()].copy_from_slice(links);
+    }
+
+    // The same with these links but for the one at the index.
+    #[inline(always)]
+    pub(crate) fn fill_but(&mut self, head: L, links: &RowLinks, index: usize, link: Link)
+        requires { index < length links.now }
+        ensures { self.new ≡ Some (record { owners = 1; head = head; links = slice_set links.now index link }) }
+    {
+        // The links are written first: they are copied once then, out of the place where they lay.
+        let (len, lying) = links.parts();
+        self.links = lying;
+        self.len = len;
+        self.head = head;
+        self.owners = 1;
+        self.is_filled = true;
+        let _ = self.replace(index, link);
     }
 
     // There is no node in it then.
@@ -444,6 +463,15 @@ impl<L: Copy> LargeSlot<L> {
         ensures short { length result.now ≤ 32 }
     {
         &self.links[..self.len as usize]
+    }
+
+    // The links as a list of their own, with what lies behind them.
+    #[inline(always)]
+    pub(crate) fn row_links(&self) -> RowLinks
+        requires { IsSome self.now }
+        ensures { result ≡ node_links self.now }
+    {
+        RowLinks::first(self.links, self.len)
     }
 
     // Puts the head in place of the node's.

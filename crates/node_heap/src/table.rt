@@ -113,6 +113,7 @@ impl<T> Table<T> {
     }
 
     // Makes a node of a spare, with one owner and these links, at most 32. Answers its place.
+    #[inline(always)]
     pub(crate) fn put_node(&mut self, head: Head, links: &[Link]) -> usize
         requires spare { 0 < self.old.spare_nodes }
         requires short { length links.now ≤ 32 }
@@ -123,7 +124,38 @@ impl<T> Table<T> {
         2 * self.nodes.put(head, links) + 1
     }
 
+    // Makes a node of a spare, with one owner and the links of the one at the place, but for the link at the index. Answers its place.
+    #[inline(always)]
+    pub(crate) fn put_beside(&mut self, place: usize, head: Head, index: usize, link: Link) -> usize
+        requires spare { 0 < self.old.spare_nodes }
+        requires index { index < length (links_of (graph_of self.old.slots place)) }
+        ensures puts { PutsIn self.old.slots self.new.slots result (node head (slice_set (links_of (graph_of self.old.slots place)) index link)) }
+        ensures spare_cells { self.new.spare_cells ≡ self.old.spare_cells }
+        ensures spare_nodes { self.new.spare_nodes + 1 ≡ self.old.spare_nodes }
+    {
+        // Rows of vectors lie in large slots.
+        if place % 8 == 5 {
+            return 2 * self.nodes.put_beside(head, place / 2, index, link) + 1;
+        }
+        self.put_copied(place, head, index, link)
+    }
+
+    // The same by a list of the links.
+    #[inline(never)]
+    fn put_copied(&mut self, place: usize, head: Head, index: usize, link: Link) -> usize
+        requires spare { 0 < self.old.spare_nodes }
+        requires index { index < length (links_of (graph_of self.old.slots place)) }
+        ensures puts { PutsIn self.old.slots self.new.slots result (node head (slice_set (links_of (graph_of self.old.slots place)) index link)) }
+        ensures spare_cells { self.new.spare_cells ≡ self.old.spare_cells }
+        ensures spare_nodes { self.new.spare_nodes + 1 ≡ self.old.spare_nodes }
+    {
+        let mut links = self.row_links(place);
+        links.replace(index, link);
+        self.put_node(head, links.as_slice())
+    }
+
     // The owners of the row at the place.
+    #[inline(always)]
     pub(crate) fn owners(&self, place: usize) -> usize
         requires { IsSome (slot_at self.now.slots place) }
         ensures { result ≡ owners_in (slot_at self.now.slots place) }
@@ -136,6 +168,7 @@ impl<T> Table<T> {
     }
 
     // The owners of the row at the place, for writing.
+    #[inline(always)]
     pub(crate) fn owners_mut(&mut self, place: usize) -> &mut usize
         requires { IsSome (slot_at self.old.slots place) }
         ensures* writes_back { sem 𝓛 (LendsOwners T.row self.entry place result) }
@@ -209,6 +242,7 @@ impl<T> Table<T> {
     }
 
     // The links of the row at the place. A cell has none.
+    #[inline(always)]
     pub(crate) fn links(&self, place: usize) -> &[Link]
         requires { IsSome (slot_at self.now.slots place) }
         ensures { result.now ≡ links_of (graph_of self.now.slots place) }
@@ -220,7 +254,21 @@ impl<T> Table<T> {
         nodes.links(place / 2)
     }
 
+    // The links of the row at the place, as a list of their own.
+    #[inline(always)]
+    pub(crate) fn row_links(&self, place: usize) -> RowLinks
+        requires { IsSome (slot_at self.now.slots place) }
+        ensures { result ≡ links_of (graph_of self.now.slots place) }
+    {
+        let nodes = &self.nodes;
+        if place % 2 == 0 {
+            return RowLinks::new();
+        }
+        nodes.row_links(place / 2)
+    }
+
     // Puts the links of the row at the place in the list.
+    #[inline(always)]
     pub(crate) fn copy_links(&self, place: usize, links: &mut RowLinks)
         requires { IsSome (slot_at self.now.slots place) }
         ensures { links.new ≡ links_of (graph_of self.now.slots place) }
@@ -283,22 +331,20 @@ impl<T> Table<T> {
 }
 
 impl<T: Drop> Table<T> {
-    // Takes the row at the place out, which is a spare of its kind then. Answers its owners, and puts its links in the list.
-    pub(crate) fn take(&mut self, place: usize, links: &mut RowLinks) -> usize
+    // Takes the row at the place out, which is a spare of its kind then. Answers its owners.
+    #[inline(always)]
+    pub(crate) fn take(&mut self, place: usize) -> usize
         requires { IsSome (slot_at self.old.slots place) }
         ensures owners { result ≡ owners_in (slot_at self.old.slots place) }
-        ensures links { links.new ≡ links_of (graph_of self.old.slots place) }
         ensures takes { TakesOut self.old self.new place }
     {
         if place % 2 == 0 {
-            links.clear();
             let owners = self.cells[place / 2].owners();
             empty_cell(&mut self.cells, &mut self.free_cells, place / 2);
             self.spare_cells += 1;
             return owners;
         }
         let owners = self.nodes.owners(place / 2);
-        links.rewrite(self.nodes.links(place / 2));
         self.nodes.free(place / 2);
         owners
     }

@@ -28,6 +28,7 @@ impl Model for Height {
 }
 
 impl Height {
+    #[inline(always)]
     fn of(rows: u8) -> Option<Height>
         ensures { (h : ℕ) → result ≡ Some h → h ≡ rows }
     {
@@ -65,6 +66,7 @@ pub(crate) enum Tag {
 
 impl Tag {
     // Where the head lies apart, if it does.
+    #[inline(always)]
     pub(crate) fn place(&self) -> Option<usize>
         ensures { result ≡ place_of self.now }
     {
@@ -76,6 +78,7 @@ impl Tag {
 }
 
 // The tag that says all of the head, and none where it says more.
+#[inline(always)]
 pub(crate) fn tag_of(head: &Head) -> Option<Tag>
     ensures { (t : Tag) → result ≡ Some t → plain_head t ≡ Some head.now }
 {
@@ -123,6 +126,7 @@ impl SmallHead<Tag> for FewHead {
 }
 
 // The tag in a small slot, and none for one that lies in a large slot alone.
+#[inline(always)]
 pub(crate) fn few_head(tag: &Tag) -> Option<FewHead>
     ensures { (f : FewHead) → result ≡ Some f → few_tag f ≡ tag.now }
 {

@@ -9,6 +9,7 @@ ghost use Rattle.node_heap.specs.Reads.{kind_said};
 ghost use Rattle.node_heap.specs.declared.row.Head.TheVariants.{Leaf};
 ghost use Rattle.node_heap.specs.declared.sets.Sets.{Sets as SetsOf};
 
+use crate::entry::RowLinks;
 use crate::rooms::Rooms;
 use crate::row::{Head, Kind, Link};
 use crate::sets::{Sets, TWIG_LINKS, sets_of, twig_sets};
@@ -175,6 +176,15 @@ impl Tries {
         ensures short { length result.now ≤ 32 }
     {
         self.rooms.links(index)
+    }
+
+    // The links of the node at the index, as a list of their own.
+    #[inline(always)]
+    pub(crate) fn row_links(&self, index: usize) -> RowLinks
+        requires { IsSome (node_at self.now.slots index) }
+        ensures { result ≡ node_links (node_at self.now.slots index) }
+    {
+        self.rooms.row_links(index)
     }
 
     // Puts the link in place of the one at the position, which it answers.

@@ -5,7 +5,7 @@ ghost use Rattle.champ_trie.specs.Bits.{has};
 ghost use Rattle.champ_trie.specs.Trie.{AreSets, place_of, links_at_place};
 ghost use Rattle.champ_trie.specs.declared.place.Place.TheVariants.{Empty, Entry as At, Node};
 
-use champ_trie::{contains, rank_of, with_position};
+use champ_trie::{contains, node_index, rank_of, with_position};
 use elem_core::NoMemory;
 use std::alloc::Global;
 
@@ -67,8 +67,8 @@ impl SetsAndLinks {
             place_of self.new.entries self.new.nodes self.new.links.items p ≡ place_of self.old.entries self.old.nodes self.old.links.items p) }
         ensures links { (k : ℕ) → OnOk result (count k self.new.links.items ≡ count k self.old.links.items + count k (links_at_place (Node node))) }
     {
-        let index = self.entries.count_ones() + rank_of(self.nodes, position);
-        self.links.insert(index as usize, node)?;
+        let index = node_index(self.entries, self.nodes, position);
+        self.links.insert(index, node)?;
         self.nodes = with_position(self.nodes, position);
         Ok(())
     }

@@ -7,8 +7,8 @@ use Rattle.champ_chain.specs.Entry.{Entry, entry, key_of, key_at}
 use Rattle.pool_text.specs.Rows.{Bytes}
 use Rattle.pool_check.specs.Tries.{entries_below, first_key, is_before, is_chain_row, all_same, is_canonical}
 use Rattle.pool_check.specs.Keeping.{codes_below, cell_of, kept_node, kept_entry, kept_chain, kept_of, canonical_kept, AreKept}
-use Rattle.pool_check.specs.declared.trie_row.Kept.{Kept}
-use Rattle.pool_check.specs.declared.trie_row.Kept.TheVariants.{Entry as At, Node, Chain, Other}
+use Rattle.pool_check.specs.declared.trie_row.KeptRow.{KeptRow}
+use Rattle.pool_check.specs.declared.trie_row.KeptRow.TheVariants.{Entry as At, Node, Chain, Other}
 use Rattle.pool_check.proofs.TestLemmas.{and-second, not-both}
 use Rattle.pool_check.proofs.TrieTests.{chain-row-is}
 use Rattle.pool_check.proofs.EntriesBelow.{own-is}
@@ -147,7 +147,7 @@ module _ (n : ℕ) (F : Forms Bytes) (code : Bytes → ℕ) (deepest : ℕ) wher
       by_key None is = refl
       by_key (Some key) is = absurd (other (cell_of k (F k)) (code key) (kept-key k (F k) key is))
 
-  module _ (kept : List Kept) (are : AreKept n F code deepest kept) (l : ℕ) (low : l < n) where
+  module _ (kept : List KeptRow) (are : AreKept n F code deepest kept) (l : ℕ) (low : l < n) where
     abbrev Es : ℕ → List (Entry Bytes)
     Es = entries_below n F
 

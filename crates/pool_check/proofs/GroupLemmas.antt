@@ -70,17 +70,17 @@ module _ {X : Type 0} (digit : X → ℕ) (g : ℕ → List X) (test : ℕ → �
               filter-append (λ x. nat_eq (digit x) p) (g k) (flat_map g ks) ∙ ap (λ xs. xs ++ with_digit p (flat_map g ks)) (filter-none p a (λ same. absurd (omega (arith, same, low))) (g k) (says a k here)) ∙ rest ks later
 
   -- the elements of a position are those of its link, and there are none where it isn't in the set
-  pub record Found (p : ℕ) (ks : List ℕ) (i : ℕ) : Type 0 where
+  pub record AtLink (p : ℕ) (ks : List ℕ) (i : ℕ) : Type 0 where
     pub here : has s p ≡ true → (with_digit p (flat_map g ks) ≡ g (slice_index ks i)) × (test p (slice_index ks i) ≡ true)
     pub gone : has s p ≡ false → with_digit p (flat_map g ks) ≡ []
 
-  pub found : (a m : ℕ) (ks : List ℕ) (p i : ℕ) → pointwise test (filter (has s) (range_with_len a m)) ks ≡ true → a ≤ p → p < a + m → rank s a + i ≡ rank s p → Found p ks i
+  pub found : (a m : ℕ) (ks : List ℕ) (p i : ℕ) → pointwise test (filter (has s) (range_with_len a m)) ks ≡ true → a ≤ p → p < a + m → rank s a + i ≡ rank s p → AtLink p ks i
   found a zero ks p i h from to at = absurd (omega (arith, from, to))
   found a (suc m) ks p i h from to at = by_has (has s a) refl ks h (λ js j e ahead is. found (a + 1) m js p j e ahead (omega (arith, to)) is)
     where
       by_has : (b : Bool) → has s a ≡ b → (ks : List ℕ) → pointwise test (filter (has s) (a ∷ range_with_len (a + 1) m)) ks ≡ true
-          → ((js : List ℕ) (j : ℕ) → pointwise test (filter (has s) (range_with_len (a + 1) m)) js ≡ true → a + 1 ≤ p → rank s (a + 1) + j ≡ rank s p → Found p js j) → Found p ks i
-      by_has false e ks h rest = elim (cases_eq a p) as (λ _. Found p ks i) [
+          → ((js : List ℕ) (j : ℕ) → pointwise test (filter (has s) (range_with_len (a + 1) m)) js ≡ true → a + 1 ≤ p → rank s (a + 1) + j ≡ rank s p → AtLink p js j) → AtLink p ks i
+      by_has false e ks h rest = elim (cases_eq a p) as (λ _. AtLink p ks i) [
         | inl same ↦ record {
           here = λ has_p. absurd (not-both (sym e ∙ ap (has s) same ∙ has_p));
           gone = λ _. none-below (a + 1) m ks p rest_test (omega (arith, same));
@@ -92,12 +92,12 @@ module _ {X : Type 0} (digit : X → ℕ) (g : ℕ → List X) (test : ℕ → �
           rest_test = sym (ap (λ b. pointwise test (cond b (a ∷ filter (has s) (range_with_len (a + 1) m)) (filter (has s) (range_with_len (a + 1) m))) ks) e) ∙ h
       by_has true e ks h rest = by_links ks (sym (ap (λ b. pointwise test (cond b (a ∷ filter (has s) (range_with_len (a + 1) m)) (filter (has s) (range_with_len (a + 1) m))) ks) e) ∙ h)
         where
-          by_links : (ks : List ℕ) → pointwise test (a ∷ filter (has s) (range_with_len (a + 1) m)) ks ≡ true → Found p ks i
+          by_links : (ks : List ℕ) → pointwise test (a ∷ filter (has s) (range_with_len (a + 1) m)) ks ≡ true → AtLink p ks i
           by_links [] h = absurd (not-both h)
-          by_links (k ∷ ks) h = elim (cases_eq a p) as (λ _. Found p (k ∷ ks) i) [
+          by_links (k ∷ ks) h = elim (cases_eq a p) as (λ _. AtLink p (k ∷ ks) i) [
             | inl same ↦
                 let first : i ≡ 0 = omega (arith, at, ap (rank s) same) in
-                subst (λ j. Found p (k ∷ ks) j) (sym first) (subst (λ q. Found q (k ∷ ks) 0) same (record {
+                subst (λ j. AtLink p (k ∷ ks) j) (sym first) (subst (λ q. AtLink q (k ∷ ks) 0) same (record {
                   here = λ _. (
                     filter-append (λ x. nat_eq (digit x) a) (g k) (flat_map g ks) ∙ ap (λ xs. xs ++ with_digit a (flat_map g ks)) (filter-all (λ x. nat_eq (digit x) a) (g k) (says a k here)) ∙ ap (λ xs. g k ++ xs) (none-below (a + 1) m ks a later (omega arith)) ∙ append-nil (g k),
                     here,
@@ -109,9 +109,9 @@ module _ {X : Type 0} (digit : X → ℕ) (g : ℕ → List X) (test : ℕ → �
                 let more : rank s (a + 1) ≤ rank s p = rank-mono s (a + 1) p ahead in
                 let step : rank s (a + 1) ≡ rank s a + 1 = omega (arith, rank-next s a, bit-has s a e) in
                 let next : i ≡ suc (i - 1) = omega (arith, at, more, step) in
-                let deeper : Found p ks (i - 1) = rest ks (i - 1) later ahead (omega (arith, at, more, step)) in
+                let deeper : AtLink p ks (i - 1) = rest ks (i - 1) later ahead (omega (arith, at, more, step)) in
                 let skip : with_digit p (flat_map g (k ∷ ks)) ≡ with_digit p (flat_map g ks) = filter-append (λ x. nat_eq (digit x) p) (g k) (flat_map g ks) ∙ ap (λ xs. xs ++ with_digit p (flat_map g ks)) (filter-none p a other (g k) (says a k here)) in
-                subst (λ j. Found p (k ∷ ks) j) (sym next) (record {
+                subst (λ j. AtLink p (k ∷ ks) j) (sym next) (record {
                   here = λ yes. let is = deeper.here yes in (skip ∙ is.0, is.1);
                   gone = λ no. skip ∙ deeper.gone no;
                 })

@@ -12,7 +12,7 @@ use Rattle.champ_trie.specs.Walk.{own_entries, rows_below}
 use Rattle.pool_text.specs.Rows.{Bytes}
 use Rattle.pool_check.specs.Tries.{entries_below, entry_passes, first_key, is_before, is_sub_node, is_chain_row, has_digit, is_entry_at, is_node_at, agree_above, are_branches, are_chained, all_same, is_canonical}
 use Rattle.pool_check.specs.Keeping.{code_at, codes_below, code_of_entry, code_of_node, cell_of, kept_node, kept_entry, kept_chain, kept_of, AreKept}
-use Rattle.pool_check.specs.declared.trie_row.Kept.{Kept}
+use Rattle.pool_check.specs.declared.trie_row.KeptRow.{KeptRow}
 use Rattle.pool_check.specs.declared.trie_row.Part.TheVariants.{Entries, Nodes}
 use Rattle.pool_check.proofs.TestLemmas.{and-first, and-second, not-both}
 use Rattle.pool_check.proofs.TrieTests.{some-is, chain-row-is, sub-node-is}
@@ -28,7 +28,7 @@ or-second : (a b : Bool) → a ≡ false → (a || b) ≡ true → b ≡ true
 or-second true b not_a h = absurd (not-both (sym not_a))
 or-second false b not_a h = h
 
-module _ (n : ℕ) (F : Forms Bytes) (code : Bytes → ℕ) (deepest : ℕ) (kept : List Kept) (are : AreKept n F code deepest kept) where
+module _ (n : ℕ) (F : Forms Bytes) (code : Bytes → ℕ) (deepest : ℕ) (kept : List KeptRow) (are : AreKept n F code deepest kept) where
   abbrev Es : ℕ → List (Entry Bytes)
   Es = entries_below n F
 
@@ -283,16 +283,16 @@ module _ (n : ℕ) (F : Forms Bytes) (code : Bytes → ℕ) (deepest : ℕ) (kep
       by_key (Some key) = refl
   node-code depth k (Some (node state ks)) low is = refl
 
-  pub kept-at : (x : Kept) (k : ℕ) → k < length kept → get_or kept k x ≡ kept_of n F code k (F k)
+  pub kept-at : (x : KeptRow) (k : ℕ) → k < length kept → get_or kept k x ≡ kept_of n F code k (F k)
   kept-at x k low = read kept k low (are.kept k low)
     where
-      read : (xs : List Kept) (i : ℕ) → i < length xs → slice_get xs i ≡ Some (kept_of n F code k (F k)) → get_or xs i x ≡ kept_of n F code k (F k)
+      read : (xs : List KeptRow) (i : ℕ) → i < length xs → slice_get xs i ≡ Some (kept_of n F code k (F k)) → get_or xs i x ≡ kept_of n F code k (F k)
       read [] i low is = absurd (omega arith)
       read (y ∷ xs) zero low is = let e : Some y ≡ Some (kept_of n F code k (F k)) = is in let f : y ≡ kept_of n F code k (F k) = cc in f
       read (y ∷ xs) (suc i) low is = read xs i (omega arith) is
 
-  pub entry-code-at : (x : Kept) (depth k : ℕ) → k < length kept → code_of_entry (get_or kept k x) ≡ code_at n F code deepest Entries depth k
+  pub entry-code-at : (x : KeptRow) (depth k : ℕ) → k < length kept → code_of_entry (get_or kept k x) ≡ code_at n F code deepest Entries depth k
   entry-code-at x depth k low = ap code_of_entry (kept-at x k low) ∙ entry-code k (F k)
 
-  pub node-code-at : (x : Kept) (depth k : ℕ) → k < length kept → code_of_node deepest depth (get_or kept k x) ≡ code_at n F code deepest Nodes depth k
+  pub node-code-at : (x : KeptRow) (depth k : ℕ) → k < length kept → code_of_node deepest depth (get_or kept k x) ≡ code_at n F code deepest Nodes depth k
   node-code-at x depth k low = ap (code_of_node deepest depth) (kept-at x k low) ∙ node-code depth k (F k) low refl

@@ -18,8 +18,8 @@ use Rattle.pool_text.specs.declared.row.Row.TheVariants.{Leaf, Inner, State}
 use Rattle.pool_check.specs.Rows.{rows_in_range_by, links_lead_back}
 use Rattle.pool_check.specs.Tries.{is_canonical, tries_stand_by}
 use Rattle.pool_check.specs.Keeping.{forms_at, kept_of, canonical_kept, AreKept}
-use Rattle.pool_check.specs.declared.trie_row.Kept.{Kept}
-use Rattle.pool_check.specs.declared.trie_row.Kept.TheVariants.{Other}
+use Rattle.pool_check.specs.declared.trie_row.KeptRow.{KeptRow}
+use Rattle.pool_check.specs.declared.trie_row.KeptRow.TheVariants.{Other}
 use Rattle.pool_check.proofs.ChainRowLemmas.{canonical-is}
 use Rattle.pool_check.proofs.TestLemmas.{and-first, and-second, all-at, leads-down}
 use Rattle.pool_check.proofs.TrieRowLemmas.{range-fails}
@@ -77,11 +77,11 @@ trie-range deepest rows i depth e d ks h is =
     (leb-true depth deepest (and-first a b (and-first (a && b) c (and-first (a && b && c) (nat_le (length ks) 32) r))), leb-true (length ks) 32 (and-second (a && b && c) (nat_le (length ks) 32) r))
 
 module _ (n : ℕ) (F : Forms Bytes) (code : Bytes → ℕ) (deepest : ℕ) where
-  pub none-kept : LeadsDown (λ l. l) (links_in F) → (kept : List Kept) → kept ≡ [] → AreKept n F code deepest kept
+  pub none-kept : LeadsDown (λ l. l) (links_in F) → (kept : List KeptRow) → kept ≡ [] → AreKept n F code deepest kept
   none-kept falls kept none =
       subst (λ xs. AreKept n F code deepest xs) (sym none) (record { falls = falls; low = omega arith; canonical = λ k low. absurd (omega (arith, low)); kept = λ k low. absurd (omega (arith, low)) })
 
-  kept-means : (l : ℕ) (row : Kept) → canonical_kept n F code deepest l ≡ Some row → (is_canonical n F code deepest l (F l) ≡ true) × (kept_of n F code l (F l) ≡ row)
+  kept-means : (l : ℕ) (row : KeptRow) → canonical_kept n F code deepest l ≡ Some row → (is_canonical n F code deepest l (F l) ≡ true) × (kept_of n F code l (F l) ≡ row)
   unfolding canonical_kept
   kept-means l row h = by_test (is_canonical n F code deepest l (F l)) h
     where
@@ -97,7 +97,7 @@ module _ (n : ℕ) (F : Forms Bytes) (code : Bytes → ℕ) (deepest : ℕ) wher
       by_test true h = absurd (let e : Some (kept_of n F code l (F l)) ≡ None = h in cc)
       by_test false h = refl
 
-  pub one-more : (kept : List Kept) (row : Kept) → AreKept n F code deepest kept → length kept < n → canonical_kept n F code deepest (length kept) ≡ Some row → AreKept n F code deepest (kept ++ row ∷ [])
+  pub one-more : (kept : List KeptRow) (row : KeptRow) → AreKept n F code deepest kept → length kept < n → canonical_kept n F code deepest (length kept) ≡ Some row → AreKept n F code deepest (kept ++ row ∷ [])
   one-more kept row are low is = record {
     falls = are.falls;
     low = omega (arith, longer, low);
@@ -112,7 +112,7 @@ module _ (n : ℕ) (F : Forms Bytes) (code : Bytes → ℕ) (deepest : ℕ) wher
       longer : length (kept ++ row ∷ []) ≡ length kept + 1
       longer = length-append kept (row ∷ [])
 
-      each : (xs : List Kept) (f : ℕ → Kept) → ((k : ℕ) → k < length xs → slice_get xs k ≡ Some (f k)) → row ≡ f (length xs) → (k : ℕ) → k < length xs + 1 → slice_get (xs ++ row ∷ []) k ≡ Some (f k)
+      each : (xs : List KeptRow) (f : ℕ → KeptRow) → ((k : ℕ) → k < length xs → slice_get xs k ≡ Some (f k)) → row ≡ f (length xs) → (k : ℕ) → k < length xs + 1 → slice_get (xs ++ row ∷ []) k ≡ Some (f k)
       each [] f h at zero low = ap Some at
       each [] f h at (suc k) low = absurd (omega (arith, low))
       each (x ∷ xs) f h at zero low = h 0 (omega arith)
@@ -159,15 +159,15 @@ module _ (rules : Rules) (P : Pool) (rows : List Row) (are : map row_form rows �
   some-refused l low h =
       sym (all-stand ∙ range-fails (λ l. is_canonical (length rows) (forms_at rows) code deepest l (forms_at rows l)) 0 (length rows) l (omega arith) (omega (arith, low)) (refused-means (length rows) (forms_at rows) code deepest l h))
 
-  pub all-kept : (kept : List Kept) → AreKept (length rows) (forms_at rows) code deepest kept → length rows ≤ length kept → true ≡ tries_stand_by rules P
+  pub all-kept : (kept : List KeptRow) → AreKept (length rows) (forms_at rows) code deepest kept → length rows ≤ length kept → true ≡ tries_stand_by rules P
   all-kept kept a long =
       sym (all-stand ∙ all-below (length rows) (forms_at rows) code deepest (λ l. is_canonical (length rows) (forms_at rows) code deepest l (forms_at rows l)) 0 (length rows) (λ p low. a.canonical p (omega (arith, low, long))))
 
   -- what is kept of the pool's rows, and of these
-  pub kept-in : (kept : List Kept) → AreKept (row_count P) (forms_in P) code deepest kept → AreKept (length rows) (forms_at rows) code deepest kept
+  pub kept-in : (kept : List KeptRow) → AreKept (row_count P) (forms_in P) code deepest kept → AreKept (length rows) (forms_at rows) code deepest kept
   kept-in kept a =
       subst (λ m. AreKept m (forms_at rows) code deepest kept) (length-map rows row_form) (subst (λ (fs : List (Form Bytes)). AreKept (length fs) (λ l. slice_get fs l) code deepest kept) (sym are) a)
 
-  pub kept-out : (kept : List Kept) → AreKept (length rows) (forms_at rows) code deepest kept → AreKept (row_count P) (forms_in P) code deepest kept
+  pub kept-out : (kept : List KeptRow) → AreKept (length rows) (forms_at rows) code deepest kept → AreKept (row_count P) (forms_in P) code deepest kept
   kept-out kept a =
       subst (λ (fs : List (Form Bytes)). AreKept (length fs) (λ l. slice_get fs l) code deepest kept) are (subst (λ m. AreKept m (forms_at rows) code deepest kept) (sym (length-map rows row_form)) a)

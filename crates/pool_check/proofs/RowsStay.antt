@@ -20,7 +20,7 @@ use Rattle.pool_check.specs.Tries.{entries_below, is_canonical}
 use Rattle.pool_check.specs.Keeping.{kept_node, kept_entry, kept_chain, cell_of, kept_of, AreKept}
 use Rattle.pool_check.specs.Facts.{facts_in, AreFacts}
 use Rattle.pool_check.specs.declared.vectors.Shape.{Shape}
-use Rattle.pool_check.specs.declared.trie_row.Kept.{Kept}
+use Rattle.pool_check.specs.declared.trie_row.KeptRow.{KeptRow}
 use Rattle.pool_check.specs.declared.kinds.RowFacts.{RowFacts}
 use Rattle.pool_check.proofs.TestLemmas.{leads-down}
 use Rattle.pool_check.proofs.SameVectors.{and-same, same-length, thick-same, length-same, fill-same}
@@ -171,7 +171,7 @@ module _ (C P : Pool) (more : List (Form Bytes)) (rows : P.rows ≡ C.rows ++ mo
       canonical-stays : (l : ℕ) → l < n → is_canonical m H code deepest l (H l) ≡ is_canonical n G code deepest l (G l)
       canonical-stays l low = canonical-same (λ j. j) G H falls falls' n m code deepest l (renamed l low) low (omega (arith, low, longer))
 
-      pub all-kept-stay : (kept : List Kept) → AreKept n G code deepest kept → AreKept m H code deepest kept
+      pub all-kept-stay : (kept : List KeptRow) → AreKept n G code deepest kept → AreKept m H code deepest kept
       all-kept-stay kept are = record {
         falls = falls';
         low = omega (arith, are.low, longer);

@@ -22,9 +22,9 @@ use Rattle.pool_check.specs.Shapes.{AreShapes, AreFirstShapes}
 use Rattle.pool_check.specs.Keeping.{AreKept}
 use Rattle.pool_check.specs.Facts.{AreFacts, facts_at, facts_in}
 use Rattle.pool_check.specs.Tested.{IsFound, IsNothing, FollowsFound, IsTested}
-use Rattle.pool_check.specs.declared.tested.Found.{Found}
+use Rattle.pool_check.specs.declared.tested.RowsFound.{RowsFound}
 use Rattle.pool_check.specs.declared.vectors.Shape.{Shape}
-use Rattle.pool_check.specs.declared.trie_row.Kept.{Kept}
+use Rattle.pool_check.specs.declared.trie_row.KeptRow.{KeptRow}
 use Rattle.pool_check.specs.declared.kinds.RowFacts.{RowFacts}
 use Rattle.pool_check.proofs.TestLemmas.{leads-down}
 use Rattle.pool_check.proofs.DamageLemmas.{open-rows-pass}
@@ -42,7 +42,7 @@ no-rows-pass : (P : Pool) → RowsPass present_rules (bare P)
 unfolding links_lead_back texts_are_lines vectors_stand tries_stand_by
 no-rows-pass P = record { lead_back = refl; lines = refl; vectors = refl; tries = refl }
 
-pub nothing-follows : (P : Pool) (found : Found) → IsNothing found → FollowsFound P found
+pub nothing-follows : (P : Pool) (found : RowsFound) → IsNothing found → FollowsFound P found
 nothing-follows P found none =
     let C : Pool = bare P in
     record {
@@ -55,20 +55,20 @@ nothing-follows P found none =
         shapes = (no-shapes C found.shapes.items none.shapes).are;
         shape_count = ap (λ (xs : List (Option Shape)). length xs) none.shapes;
         kept = none-kept 0 (forms_in C) (code_by present_rules.code_of C.bits) present_rules.deepest (leads-down C (no-rows-pass P).lead_back) found.kept.items none.kept;
-        kept_count = ap (λ (xs : List Kept). length xs) none.kept;
+        kept_count = ap (λ (xs : List KeptRow). length xs) none.kept;
         facts = no-facts C found.facts.items none.facts;
         fact_count = ap (λ (xs : List RowFacts). length xs) none.facts;
       };
     }
 
 -- a pool with rows behind those of one that was tested
-pub tested-follows : (C P : Pool) (found : Found) (more : List (Form Bytes)) → IsTested C found → P.rows ≡ C.rows ++ more → P.bits ≡ C.bits → FollowsFound P found
+pub tested-follows : (C P : Pool) (found : RowsFound) (more : List (Form Bytes)) → IsTested C found → P.rows ≡ C.rows ++ more → P.bits ≡ C.bits → FollowsFound P found
 tested-follows C P found more is rows bits = record { first = C; more = more; rows = rows; bits = bits; pass = open-rows-pass present_rules C is.passes; known = is.known }
 
 pub both-in-range : (xs ys : List (Form Bytes)) → list_all is_in_range xs ≡ true → list_all is_in_range ys ≡ true → list_all is_in_range (xs ++ ys) ≡ true
 both-in-range xs ys h k = list_all-append is_in_range xs ys ∙ and_from (list_all is_in_range xs) (list_all is_in_range ys) h k
 
-module _ (P : Pool) (found : Found) (is : FollowsFound P found) where
+module _ (P : Pool) (found : RowsFound) (is : FollowsFound P found) where
   abbrev C : Pool
   C = is.first
 
@@ -94,7 +94,7 @@ module _ (P : Pool) (found : Found) (is : FollowsFound P found) where
     facts-before = facts-stay C P is.more is.rows is.pass.lead_back back found.facts.items is.known.facts is.known.fact_count
 
 -- the test `Kind` by what was found
-module _ (P : Pool) (found : Found) (pass : RowsPass present_rules P) (known : IsFound P found) (many : length P.roots ≡ 4) (roots : List ℕ) (same : roots ≡ P.roots)
+module _ (P : Pool) (found : RowsFound) (pass : RowsPass present_rules P) (known : IsFound P found) (many : length P.roots ≡ 4) (roots : List ℕ) (same : roots ≡ P.roots)
     (facts : List RowFacts) (facts_same : facts ≡ found.facts.items) (kinds : Bool) (kinds_is : (n : ℕ) (F : Forms Bytes) → AreFacts (facts_at n F) facts → kinds ≡ are_of n F (State ∷ Versions ∷ History ∷ History ∷ []) roots) where
   kinds-are : kinds ≡ roots_are_of_kind P
   kinds-are = four-kinds P roots kinds same many (kinds_is (row_count P) (forms_in P) (subst (λ xs. AreFacts (facts_in P) xs) (sym facts_same) known.facts))

@@ -30,7 +30,7 @@ use Rattle.champ_trie.proofs.PlaceLemmas.{place-entry, place-node, place-empty}
 use Rattle.pool_text.specs.Rows.{is_in_range_to}
 use Rattle.pool_check.specs.Tries.{entry_at, entries_below, entry_passes, first_key, positions, are_apart, is_before, is_sub_node, is_chain_row, has_digit, is_entry_at, is_node_at, agree_above, are_branches, are_chained, all_same, is_canonical}
 use Rattle.pool_check.proofs.EntriesBelow.{own, own-is, rows-low, entries-is}
-use Rattle.pool_check.proofs.GroupLemmas.{positions-length, pointwise-length, Found, found}
+use Rattle.pool_check.proofs.GroupLemmas.{positions-length, pointwise-length, AtLink, found}
 use Rattle.pool_check.proofs.TestLemmas.{and-first, and-second, not-both}
 use Rattle.pool_check.proofs.TrieTests.{by_bytes, before-is, some-is, chain-row-is, sub-node-is}
 
@@ -271,10 +271,10 @@ module _ (F : Forms Bytes) (falls : LeadsDown (λ l. l) (links_in F)) (n : ℕ) 
       NodeFor : ℕ → Type 0
       NodeFor k = (2 ≤ length E) × IsNode left depth k E
 
-      entries : Found (digit depth) (own F) (is_entry_at n F code depth) (entry-says depth) e p (take r ks) (rank e p)
+      entries : AtLink (digit depth) (own F) (is_entry_at n F code depth) (entry-says depth) e p (take r ks) (rank e p)
       entries = found (digit depth) (own F) (is_entry_at n F code depth) (entry-says depth) e 0 32 (take r ks) p (rank e p) row.entries (omega arith) (omega (arith, small)) (omega (arith, rank-zero e))
 
-      nodes : Found (digit depth) Es (is_node_at n F code deepest depth) (node-says depth) d p (drop r ks) (rank d p)
+      nodes : AtLink (digit depth) Es (is_node_at n F code deepest depth) (node-says depth) d p (drop r ks) (rank d p)
       nodes = found (digit depth) Es (is_node_at n F code deepest depth) (node-says depth) d 0 32 (drop r ks) p (rank d p) row.nodes (omega arith) (omega (arith, small)) (omega (arith, rank-zero d))
 
   pub trie-at : (left depth e d l : ℕ) (ks : List ℕ) → depth + left ≡ deepest + 1 → l < n → F l ≡ Some (node (trie depth e d) ks) → IsTrie by_bytes code F left depth l (Es l)

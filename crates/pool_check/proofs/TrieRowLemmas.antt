@@ -19,8 +19,8 @@ use Rattle.champ_trie.proofs.BitLemmas.{bit-has, has-bit, count-rank}
 use Rattle.pool_text.specs.Rows.{Bytes}
 use Rattle.pool_check.specs.Tries.{entries_below, positions, are_apart, is_sub_node, is_entry_at, is_node_at, agree_above, are_branches, all_same, is_canonical}
 use Rattle.pool_check.specs.Keeping.{code_at, codes_below, codes_by, codes_in, digits_are, codes_stand, kept_node, kept_of, canonical_kept, AreKept}
-use Rattle.pool_check.specs.declared.trie_row.Kept.{Kept}
-use Rattle.pool_check.specs.declared.trie_row.Kept.TheVariants.{Node}
+use Rattle.pool_check.specs.declared.trie_row.KeptRow.{KeptRow}
+use Rattle.pool_check.specs.declared.trie_row.KeptRow.TheVariants.{Node}
 use Rattle.pool_check.specs.declared.trie_row.Part.TheVariants.{Entries, Nodes}
 use Rattle.pool_check.proofs.TestLemmas.{and-first, and-second}
 use Rattle.pool_check.proofs.GroupLemmas.{positions-length, pointwise-length}
@@ -124,14 +124,14 @@ own-few F (k ∷ ks) = omega (arith, length-append (own F k) (flat_map (own F) k
     one (Some key) = omega arith
 
 -- a trie row of these sets and links, and what is kept of the rows that it names
-pub record IsTrieRow (n : ℕ) (F : Forms Bytes) (code : Bytes → ℕ) (deepest : ℕ) (kept : List Kept) (depth e d l : ℕ) (ks : List ℕ) : Type 0 where
+pub record IsTrieRow (n : ℕ) (F : Forms Bytes) (code : Bytes → ℕ) (deepest : ℕ) (kept : List KeptRow) (depth e d l : ℕ) (ks : List ℕ) : Type 0 where
   pub are : AreKept n F code deepest kept
   pub low : l < n
   pub is : F l ≡ Some (node (trie depth e d) ks)
   pub below : list_all (λ k. nat_lt k (length kept)) ks ≡ true
   pub small : e < 2 ^ 32
 
-module _ {n : ℕ} {F : Forms Bytes} {code : Bytes → ℕ} {deepest : ℕ} {kept : List Kept} {depth e d l : ℕ} {ks : List ℕ} (row : IsTrieRow n F code deepest kept depth e d l ks) where
+module _ {n : ℕ} {F : Forms Bytes} {code : Bytes → ℕ} {deepest : ℕ} {kept : List KeptRow} {depth e d l : ℕ} {ks : List ℕ} (row : IsTrieRow n F code deepest kept depth e d l ks) where
   abbrev r : ℕ
   r = rank e 32
 

@@ -9,8 +9,8 @@ use Rattle.champ_trie.specs.Bits.{rank}
 use Rattle.pool_text.specs.Rows.{Bytes, row_form}
 use Rattle.pool_text.specs.declared.row.Row.{Row}
 use Rattle.pool_check.specs.Tries.{entries_below, positions, all_same, is_sub_node, is_canonical}
-use Rattle.pool_check.specs.declared.trie_row.Kept.{Kept}
-use Rattle.pool_check.specs.declared.trie_row.Kept.TheVariants.{Entry as At, Node, Chain, Other}
+use Rattle.pool_check.specs.declared.trie_row.KeptRow.{KeptRow}
+use Rattle.pool_check.specs.declared.trie_row.KeptRow.TheVariants.{Entry as At, Node, Chain, Other}
 use Rattle.pool_check.specs.declared.trie_row.Part.{Part}
 use Rattle.pool_check.specs.declared.trie_row.Part.TheVariants.{Entries, Nodes}
 
@@ -34,18 +34,18 @@ codes_stand depth entries nodes codes =
     && all_same (map (λ c. c % 2 ^ (5 * depth)) codes)
 
 -- the code that is kept of an entry
-abbrev pub code_of_entry : Kept → Option ℕ
+abbrev pub code_of_entry : KeptRow → Option ℕ
 code_of_entry (At _ c) = Some c
 code_of_entry _ = None
 
 -- the code that is kept of a sub-node of a trie row of this depth
-abbrev pub code_of_node : ℕ → ℕ → Kept → Option ℕ
+abbrev pub code_of_node : ℕ → ℕ → KeptRow → Option ℕ
 code_of_node deepest depth (Node own c) = if own == depth + 1 then Some c else None
 code_of_node deepest depth (Chain _ c two) = if (depth == deepest) && two then Some c else None
 code_of_node deepest depth _ = None
 
 -- what is kept of a trie row over keys of these codes
-abbrev pub kept_node : ℕ → List ℕ → Kept
+abbrev pub kept_node : ℕ → List ℕ → KeptRow
 kept_node depth [] = Other
 kept_node depth (c ∷ _) = Node depth c
 
@@ -56,12 +56,12 @@ cell_of l _ = l
 
 module _ (code : Bytes → ℕ) where
   -- what is kept of an entry with this key, whose cell is at the place
-  abbrev pub kept_entry : ℕ → Option Bytes → Kept
+  abbrev pub kept_entry : ℕ → Option Bytes → KeptRow
   kept_entry cell None = Other
   kept_entry cell (Some key) = At cell (code key)
 
   -- what is kept of a chain row whose first key is this one
-  abbrev pub kept_chain : Bool → ℕ → Option Bytes → Kept
+  abbrev pub kept_chain : Bool → ℕ → Option Bytes → KeptRow
   kept_chain two cell None = Other
   kept_chain two cell (Some key) = Chain cell (code key) two
 
@@ -71,7 +71,7 @@ module _ (n : ℕ) (F : Forms Bytes) (code : Bytes → ℕ) where
   codes_below l = map (λ e. code e.key) (entries_below n F l)
 
   -- what is kept of the row at a place
-  abbrev pub kept_of : ℕ → Option (Form Bytes) → Kept
+  abbrev pub kept_of : ℕ → Option (Form Bytes) → KeptRow
   kept_of l (Some (node (trie depth _ _) _)) = kept_node depth (codes_below l)
   kept_of l (Some (node chain [])) = Other
   kept_of l (Some (node chain (k ∷ ks))) = kept_chain code (length ks == 1) (cell_of k (F k)) (key_at F k)
@@ -89,11 +89,11 @@ module _ (n : ℕ) (F : Forms Bytes) (code : Bytes → ℕ) where
         option_and_then (λ cs. option_map (λ ds. cs ++ ds) (codes_by (code_at Nodes depth) (drop own links))) (codes_by (code_at Entries depth) (take own links))
 
     -- what is kept of the row at a place, if it is canonical
-    unfoldable pub canonical_kept : ℕ → Option Kept
+    unfoldable pub canonical_kept : ℕ → Option KeptRow
     canonical_kept l = if is_canonical n F code deepest l (F l) then Some (kept_of l (F l)) else None
 
     -- this is what is kept of the first rows, all of which are canonical
-    pub record AreKept (known : List Kept) : Type 0 where
+    pub record AreKept (known : List KeptRow) : Type 0 where
       pub falls : LeadsDown (λ l. l) (links_in F)
       pub low : length known ≤ n
       pub canonical : (k : ℕ) → k < length known → is_canonical n F code deepest k (F k) ≡ true

@@ -12,10 +12,10 @@ use Rattle.pool_check.specs.Damages.{open_damage, RowsPass}
 use Rattle.pool_check.specs.Shapes.{AreShapes}
 use Rattle.pool_check.specs.Keeping.{AreKept}
 use Rattle.pool_check.specs.Facts.{AreFacts, facts_in}
-use Rattle.pool_check.specs.declared.tested.Found.{Found}
+use Rattle.pool_check.specs.declared.tested.RowsFound.{RowsFound}
 
 -- this was found of each row
-pub record IsFound (P : Pool) (found : Found) : Type 0 where
+pub record IsFound (P : Pool) (found : RowsFound) : Type 0 where
   pub shapes : AreShapes (forms_in P) found.shapes.items
   pub shape_count : length found.shapes.items ≡ row_count P
   pub kept : AreKept (row_count P) (forms_in P) (code_by present_rules.code_of P.bits) present_rules.deepest found.kept.items
@@ -24,13 +24,13 @@ pub record IsFound (P : Pool) (found : Found) : Type 0 where
   pub fact_count : length found.facts.items ≡ row_count P
 
 -- nothing was found
-pub record IsNothing (found : Found) : Type 0 where
+pub record IsNothing (found : RowsFound) : Type 0 where
   pub shapes : found.shapes.items ≡ []
   pub kept : found.kept.items ≡ []
   pub facts : found.facts.items ≡ []
 
 -- the pool begins with the rows of one whose rows pass the tests `Link` to `Trie`, and this was found of these
-pub record FollowsFound (P : Pool) (found : Found) : Type 0 where
+pub record FollowsFound (P : Pool) (found : RowsFound) : Type 0 where
   pub first : Pool
   pub more : List (Form Bytes)
   pub rows : P.rows ≡ first.rows ++ more
@@ -39,7 +39,7 @@ pub record FollowsFound (P : Pool) (found : Found) : Type 0 where
   pub known : IsFound first found
 
 -- the pool passes the tests `Link` to `Kind`, and this was found of its rows
-pub record IsTested (P : Pool) (found : Found) : Type 0 where
+pub record IsTested (P : Pool) (found : RowsFound) : Type 0 where
   pub bits : P.bits ≤ CODE_BITS
   pub in_range : list_all is_in_range P.rows ≡ true
   pub passes : open_damage present_rules P ≡ None

@@ -9,7 +9,7 @@ ghost use Rattle.pool_check.specs.Tested.{IsFound, IsNothing, FollowsFound};
 use crate::kinds::{RowFacts, SPACE, are_roots, facts_of_rows};
 use crate::order::rows_in_order;
 use crate::rows::{links_lead_back, texts_are_lines};
-use crate::trie_row::Kept;
+use crate::trie_row::KeptRow;
 use crate::tries::kept_of;
 use crate::vectors::{Shape, shapes_of, undo_length};
 use elem_core::{CODE_BITS, NoMemory};
@@ -19,9 +19,9 @@ use std::marker::Model;
 
 // What was found of each row.
 #[derive(Drop)]
-pub(crate) struct Found {
+pub(crate) struct RowsFound {
     pub(crate) shapes: Vec<Option<Shape>>,
-    pub(crate) kept: Vec<Kept>,
+    pub(crate) kept: Vec<KeptRow>,
     pub(crate) facts: Vec<RowFacts>,
 }
 
@@ -30,7 +30,7 @@ pub(crate) struct Found {
 #[derive(Drop)]
 pub struct Tested {
     pool: Pool,
-    found: Found,
+    found: RowsFound,
 }
 
 impl Model for Tested {
@@ -114,10 +114,10 @@ fn appended(mut rows: Vec<Row>, mut more: Vec<Row>) -> Result<Vec<Row>, NoMemory
 }
 
 // Nothing, with room for so many rows.
-fn nothing_found(alloc: Global, count: usize) -> Result<Found, NoMemory>
+fn nothing_found(alloc: Global, count: usize) -> Result<RowsFound, NoMemory>
     ensures { IfOk result IsNothing }
 {
-    Ok(Found {
+    Ok(RowsFound {
         shapes: Vec::with_capacity(alloc, count)?,
         kept: Vec::with_capacity(alloc, count)?,
         facts: Vec::with_capacity(alloc, count)?,
@@ -126,7 +126,7 @@ fn nothing_found(alloc: Global, count: usize) -> Result<Found, NoMemory>
 
 // Makes the tests of a pool of whose first rows these are found. Refused with the first that fails, and with `Memory` where memory runs
 // out.
-fn make_tested(pool: Pool, found: Found) -> Result<Tested, Damage>
+fn make_tested(pool: Pool, found: RowsFound) -> Result<Tested, Damage>
     requires follows { FollowsFound pool found }
     requires bits { pool.bits ≤ CODE_BITS }
     requires roots { length pool.roots ≡ 4 }
@@ -148,7 +148,7 @@ fn make_tested(pool: Pool, found: Found) -> Result<Tested, Damage>
 
 // What is found of the rows of a pool of whose first rows these are found, if they pass the tests `Link` to `Trie`. Refused with the
 // first that fails, and with `Memory` where memory runs out.
-fn found_more(pool: &Pool, found: Found) -> Result<Found, Damage>
+fn found_more(pool: &Pool, found: RowsFound) -> Result<RowsFound, Damage>
     requires follows { FollowsFound pool.now found }
     requires bits { pool.now.bits ≤ CODE_BITS }
     requires rows { list_all is_in_range pool.now.rows ≡ true }
@@ -170,7 +170,7 @@ fn found_more(pool: &Pool, found: Found) -> Result<Found, Damage>
         return Err(Damage::Trie);
     };
     let facts = facts_of_rows(pool, found.facts)?;
-    Ok(Found {
+    Ok(RowsFound {
         shapes,
         kept,
         facts,

@@ -12,7 +12,7 @@ use elem_core::{Code, DEEPEST, digit, masked};
 
 // What is kept of a row for the rows above it.
 #[derive(Clone, Copy)]
-pub(crate) enum Kept {
+pub(crate) enum KeptRow {
     // An entry: the place of its key's cell, and the key's code.
     Entry { cell: u64, code: Code },
     // A trie row over an entry or more: its depth, and the code of the first key below it.
@@ -34,13 +34,13 @@ pub(crate) enum Part {
 
 // What is kept of a trie row of these sets and links, if it is canonical where tries go so deep.
 pub(crate) fn trie_row(
-    kept: &[Kept],
+    kept: &[KeptRow],
     deepest: u8,
     depth: u8,
     entries: u32,
     nodes: u32,
     links: &[u64],
-) -> Option<Kept>
+) -> Option<KeptRow>
     requires depth { depth ≤ DEEPEST }
     requires few { length links.now ≤ 32 }
     requires below { list_all (λ k. nat_lt k (length kept.now)) links.now ≡ true }
@@ -73,21 +73,21 @@ fn are_enough(depth: u8, own: usize, links: usize) -> bool
 }
 
 // What is kept of a trie row with these codes of keys below it.
-fn kept_node(depth: u8, codes: &[Code]) -> Kept
+fn kept_node(depth: u8, codes: &[Code]) -> KeptRow
     ensures { result ≡ node_kept depth codes.now }
 {
     match codes {
-        [first, ..] => Kept::Node {
+        [first, ..] => KeptRow::Node {
             depth,
             code: *first,
         },
-        [] => Kept::Other,
+        [] => KeptRow::Other,
     }
 }
 
 // For each link the code of the first key there, if the first `own` links name entries, and the others sub-nodes.
 fn codes_of(
-    kept: &[Kept],
+    kept: &[KeptRow],
     deepest: u8,
     depth: u8,
     own: usize,
@@ -120,7 +120,7 @@ fn codes_of(
 
 // Adds the code of the first key at each link of this part; false where one isn't of the part.
 fn add_codes(
-    kept: &[Kept],
+    kept: &[KeptRow],
     part: Part,
     deepest: u8,
     depth: u8,
@@ -145,7 +145,7 @@ fn add_codes(
 }
 
 // The code of the first key at the link, if it names an entry, or a sub-node of a trie row of this depth.
-fn code_of(kept: &[Kept], part: Part, deepest: u8, depth: u8, link: u64) -> Option<Code>
+fn code_of(kept: &[KeptRow], part: Part, deepest: u8, depth: u8, link: u64) -> Option<Code>
     requires depth { depth ≤ DEEPEST }
     requires below { link < length kept.now }
     ensures { (n : ℕ) (F : Forms Bytes) (code : Bytes → ℕ) → AreKept n F code deepest kept.now
@@ -158,23 +158,23 @@ fn code_of(kept: &[Kept], part: Part, deepest: u8, depth: u8, link: u64) -> Opti
 }
 
 // The code that is kept of an entry.
-fn entry_code(kept: Kept) -> Option<Code>
+fn entry_code(kept: KeptRow) -> Option<Code>
     ensures { result ≡ code_of_entry kept }
 {
     match kept {
-        Kept::Entry { code, .. } => Some(code),
+        KeptRow::Entry { code, .. } => Some(code),
         _ => None,
     }
 }
 
 // The code that is kept of a sub-node of a trie row of this depth.
-fn node_code(kept: Kept, deepest: u8, depth: u8) -> Option<Code>
+fn node_code(kept: KeptRow, deepest: u8, depth: u8) -> Option<Code>
     requires { depth ≤ DEEPEST }
     ensures { result ≡ code_of_node deepest depth kept }
 {
     match kept {
-        Kept::Node { depth: own, code } => (own == depth + 1).then_some(code),
-        Kept::Chain { code, two, .. } => (depth == deepest && two).then_some(code),
+        KeptRow::Node { depth: own, code } => (own == depth + 1).then_some(code),
+        KeptRow::Chain { code, two, .. } => (depth == deepest && two).then_some(code),
         _ => None,
     }
 }

@@ -10,7 +10,7 @@ ghost use Rattle.pool_check.specs.Rows.{rows_in_range_by, links_lead_back};
 ghost use Rattle.pool_check.specs.Tries.{is_before, tries_stand_by};
 ghost use Rattle.pool_check.specs.Keeping.{forms_at, kept_entry, canonical_kept, AreKept};
 
-use crate::trie_row::{Kept, trie_row};
+use crate::trie_row::{KeptRow, trie_row};
 use elem_core::{CODE_BITS, NoMemory, masked};
 use pool_text::{Pool, Row, Rules};
 
@@ -19,8 +19,8 @@ use pool_text::{Pool, Row, Rules};
 pub(crate) fn kept_of(
     pool: &Pool,
     rules: Rules,
-    mut kept: Vec<Kept>,
-) -> Result<Option<Vec<Kept>>, NoMemory>
+    mut kept: Vec<KeptRow>,
+) -> Result<Option<Vec<KeptRow>>, NoMemory>
     requires first { AreKept (row_count pool.now) (forms_in pool.now) (code_by (rules_named rules).code_of pool.now.bits) (rules_named rules).deepest kept.items }
     requires bits { pool.now.bits ≤ CODE_BITS }
     requires rows { rows_in_range_by (rules_named rules) pool.now ≡ true }
@@ -40,7 +40,7 @@ pub(crate) fn kept_of(
 }
 
 // What is kept of the first row after those of which something was kept, if it is canonical.
-fn kept_row(rows: &[Row], kept: &[Kept], rules: Rules, bits: u32) -> Option<Kept>
+fn kept_row(rows: &[Row], kept: &[KeptRow], rules: Rules, bits: u32) -> Option<KeptRow>
     requires bits { bits ≤ CODE_BITS }
     requires place { length kept.now < length rows.now }
     requires rows { list_all (is_in_range_to (rules_named rules).deepest) (map row_form rows.now) ≡ true }
@@ -48,7 +48,7 @@ fn kept_row(rows: &[Row], kept: &[Kept], rules: Rules, bits: u32) -> Option<Kept
     ensures { result ≡ canonical_kept (length rows.now) (forms_at rows.now) (code_by (rules_named rules).code_of bits) (rules_named rules).deepest (length kept.now) }
 {
     match &rows[kept.len()] {
-        Row::Cell(text) => Some(Kept::Entry {
+        Row::Cell(text) => Some(KeptRow::Entry {
             cell: kept.len() as u64,
             code: masked(rules.code(text.as_str()), bits),
         }),
@@ -67,12 +67,12 @@ fn kept_row(rows: &[Row], kept: &[Kept], rules: Rules, bits: u32) -> Option<Kept
             links.as_slice(),
         ),
         Row::Chain(links) => chain_row(rows, kept, links.as_slice()),
-        Row::Leaf(_) | Row::Inner(..) | Row::State(..) => Some(Kept::Other),
+        Row::Leaf(_) | Row::Inner(..) | Row::State(..) => Some(KeptRow::Other),
     }
 }
 
 // What is kept of a pair with this key.
-fn kept_pair(rows: &[Row], kept: &[Kept], key: u64) -> Kept
+fn kept_pair(rows: &[Row], kept: &[KeptRow], key: u64) -> KeptRow
     requires rows { key < length rows.now }
     requires below { key < length kept.now }
     ensures { (n : ℕ) (code : Bytes → ℕ) (deepest : ℕ) → AreKept n (forms_at rows.now) code deepest kept.now
@@ -80,12 +80,12 @@ fn kept_pair(rows: &[Row], kept: &[Kept], key: u64) -> Kept
 {
     match &rows[key as usize] {
         Row::Cell(_) => kept[key as usize],
-        _ => Kept::Other,
+        _ => KeptRow::Other,
     }
 }
 
 // What is kept of a chain row with these links, if it is canonical.
-fn chain_row(rows: &[Row], kept: &[Kept], links: &[u64]) -> Option<Kept>
+fn chain_row(rows: &[Row], kept: &[KeptRow], links: &[u64]) -> Option<KeptRow>
     requires kept { (n : ℕ) × (code : Bytes → ℕ) × (deepest : ℕ) × AreKept n (forms_at rows.now) code deepest kept.now }
     requires below { list_all (λ k. nat_lt k (length kept.now)) links.now ≡ true }
     ensures { (n : ℕ) (code : Bytes → ℕ) (deepest l : ℕ) → AreKept n (forms_at rows.now) code deepest kept.now → l < n
@@ -93,7 +93,7 @@ fn chain_row(rows: &[Row], kept: &[Kept], links: &[u64]) -> Option<Kept>
 {
     match links {
         [entry] => match kept[*entry as usize] {
-            Kept::Entry { cell, code } => Some(Kept::Chain {
+            KeptRow::Entry { cell, code } => Some(KeptRow::Chain {
                 cell,
                 code,
                 two: false,
@@ -106,17 +106,17 @@ fn chain_row(rows: &[Row], kept: &[Kept], links: &[u64]) -> Option<Kept>
 }
 
 // What is kept of a chain row of this entry and this chain, if it is canonical.
-fn chained(rows: &[Row], kept: &[Kept], entry: u64, next: u64) -> Option<Kept>
+fn chained(rows: &[Row], kept: &[KeptRow], entry: u64, next: u64) -> Option<KeptRow>
     requires kept { (n : ℕ) × (code : Bytes → ℕ) × (deepest : ℕ) × AreKept n (forms_at rows.now) code deepest kept.now }
     requires entry { entry < length kept.now }
     requires next { next < length kept.now }
     ensures { (n : ℕ) (code : Bytes → ℕ) (deepest l : ℕ) → AreKept n (forms_at rows.now) code deepest kept.now → l < n
         → forms_at rows.now l ≡ Some (node chain (entry ∷ next ∷ [])) → result ≡ canonical_kept n (forms_at rows.now) code deepest l }
 {
-    let Kept::Entry { cell, code } = kept[entry as usize] else {
+    let KeptRow::Entry { cell, code } = kept[entry as usize] else {
         return None;
     };
-    let Kept::Chain {
+    let KeptRow::Chain {
         cell: next_cell,
         code: next_code,
         ..
@@ -125,7 +125,7 @@ fn chained(rows: &[Row], kept: &[Kept], entry: u64, next: u64) -> Option<Kept>
         return None;
     };
     if code == next_code && is_text_before(rows, cell, next_cell) {
-        Some(Kept::Chain {
+        Some(KeptRow::Chain {
             cell,
             code,
             two: true,

@@ -21,7 +21,7 @@ pub use Rattle.rrb_core.proofs.RowLists.{no-rows, one-row, one-items, rows-appen
 -- rows of each height
 pub use Rattle.rrb_core.proofs.LevelLemmas.{rows-own, rows-inner, rows-past, rows-few, rows-kept, all-kept, rows-of-same, front-of-height, takes-whole, takes-after}
 -- packed rows, and an edit's last element
-pub use Rattle.rrb_core.proofs.PushLemmas.{packed-leaf, packed-thick, all-last}
+pub use Rattle.rrb_core.proofs.PushLemmas.{packed-leaf, packed-thick, pushed-root-same, all-last}
 pub use Rattle.rrb_core.proofs.EditLemmas.{IsSpot, leaf-items, pushed-last}
 -- lists of links, cut at a place, and running sums
 pub use Rattle.rrb_core.proofs.Lists.{empty-list, one-list, take-past, front-last, child-short, flat_map-same, set-parts}

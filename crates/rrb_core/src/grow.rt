@@ -82,6 +82,7 @@ fn push_root<T>(heap: &mut Heap<T>, root: Link, element: Link) -> Link
 }
 
 // The root over a packed root and one element beside it.
+#[inline(never)]
 fn root_beside<T>(heap: &mut Heap<T>, root: Link, height: u8, element: Link) -> Link
     requires root { CanEditRoot heap.old root PUSH_NODES }
     requires height { height ≡ height_at heap.old root }
@@ -114,6 +115,7 @@ fn push_below<T>(heap: &mut Heap<T>, link: Link, height: u8, element: Link) -> O
 
 // The same for an inner row, whose children have the height `below`.
 #[cycle(push)]
+#[inline(always)]
 fn push_inner<T>(heap: &mut Heap<T>, link: Link, below: u8, element: Link) -> Option<Link>
     requires row { CanEdit heap.old (suc below) link }
     requires short { length (seq_at (form_at heap.old) (suc below) link) + 1 < 2 ^ 32 }
@@ -130,6 +132,7 @@ fn push_inner<T>(heap: &mut Heap<T>, link: Link, below: u8, element: Link) -> Op
 }
 
 // The last child of an inner row, whose children have the height `below`.
+#[inline(always)]
 fn last_child<T>(heap: &Heap<T>, link: Link, below: u8) -> Link
     requires well { IsWell (form_at heap.now) (suc below) link }
     requires sums { HasSums heap.now (suc below) link }
@@ -140,6 +143,7 @@ fn last_child<T>(heap: &Heap<T>, link: Link, below: u8) -> Link
 }
 
 // The inner row whose last child is packed with one child more, over `element` alone, or None where it has 32 children.
+#[inline(never)]
 fn push_beside<T>(heap: &mut Heap<T>, link: Link, below: u8, element: Link) -> Option<Link>
     requires row { CanEdit heap.old (suc below) link }
     requires packed { IsPacked (form_at heap.old) below (last_in (form_at heap.old) link) }
@@ -158,6 +162,7 @@ fn push_beside<T>(heap: &mut Heap<T>, link: Link, below: u8, element: Link) -> O
 }
 
 // The leaf with one element more, or None where it has 32.
+#[inline(always)]
 fn push_leaf<T>(heap: &mut Heap<T>, link: Link, element: Link) -> Option<Link>
     requires row { CanEdit heap.old 0 link }
     requires held { 1 ≤ holds_at heap.old element }

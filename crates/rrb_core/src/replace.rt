@@ -59,7 +59,7 @@ pub fn set<T>(
     ensures range { (result ≡ Err SetFault.Range) ↔ (length (elements heap.old vector) ≤ index) }
     ensures ample { HasSpares heap.old 0 8 → result ≢ Err SetFault.Memory }
 {
-    if index >= vector.len(heap) {
+    if vector.is_past(heap, index) {
         return Err(SetFault::Range);
     }
     heap.reserve(0, SET_NODES)?;
@@ -95,6 +95,7 @@ fn set_below<T>(heap: &mut Heap<T>, link: Link, height: u8, index: u32, element:
 
 // The same for an inner row, whose children have the height `below`.
 #[cycle(set)]
+#[inline(always)]
 fn set_inner<T>(heap: &mut Heap<T>, link: Link, below: u8, index: u32, element: Link) -> Link
     requires row { CanEdit heap.old (suc below) link }
     requires inside { index < length (seq_at (form_at heap.old) (suc below) link) }
@@ -108,6 +109,7 @@ fn set_inner<T>(heap: &mut Heap<T>, link: Link, below: u8, index: u32, element: 
 }
 
 // The leaf with `element` at the place.
+#[inline(always)]
 fn set_leaf<T>(heap: &mut Heap<T>, link: Link, place: usize, element: Link) -> Link
     requires row { CanEdit heap.old 0 link }
     requires inside { place < length (seq_at (form_at heap.old) 0 link) }

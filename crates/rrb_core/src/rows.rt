@@ -21,7 +21,7 @@ pub const ROW_LINKS: usize = 32;
 pub type Gathered = ArrayVec<Link, 64>;
 
 /// The height that an inner row states, and 0 for every other row.
-#[inline]
+#[inline(always)]
 pub fn height_of<T>(heap: &Heap<T>, link: Link) -> u8
     requires { IsSome (row_at heap.now link) }
     ensures { result ≡ height_at heap.now link }
@@ -33,7 +33,7 @@ pub fn height_of<T>(heap: &Heap<T>, link: Link) -> u8
 }
 
 /// The running sums of its children's lengths that an inner row keeps; none where it keeps none, and for every other row.
-#[inline]
+#[inline(always)]
 pub fn sums_of<T>(heap: &Heap<T>, link: Link) -> &[u32]
     requires { IsSome (row_at heap.now link) }
     ensures { result.now ≡ sums_at heap.now link }
@@ -300,6 +300,7 @@ fn kept_sums(sums: &[u32], below: u8) -> Sums
 }
 
 // Whether a row of this height has as many elements as it can.
+#[inline]
 fn has_full_size<T>(heap: &Heap<T>, link: Link, height: u8) -> bool
     requires well { IsWell (form_at heap.now) height link }
     requires sums { HasSums heap.now height link }
@@ -313,6 +314,7 @@ fn has_full_size<T>(heap: &Heap<T>, link: Link, height: u8) -> bool
 // Whether it is seen, by the row `link` and one child alone, that the first `keep` children of `link`, then `child`, then
 // its children from the place `skip` on are all full but the last. That one child is the last of `link` where `child` comes
 // behind it, and else `child`.
+#[inline(always)]
 fn stays_regular<T>(
     heap: &Heap<T>,
     link: Link,
@@ -366,6 +368,7 @@ fn sums_beside<T>(
 }
 
 // The inner row over the first `keep` children of `link`, then `child`, then its children from the place `skip` on.
+#[inline(always)]
 pub(crate) fn inner_with<T>(
     heap: &mut Heap<T>,
     link: Link,
@@ -387,6 +390,7 @@ pub(crate) fn inner_with<T>(
 }
 
 // The same where all its children but the last are full, so that it keeps no sums.
+#[inline(always)]
 fn regular_with<T>(
     heap: &mut Heap<T>,
     link: Link,
@@ -403,6 +407,7 @@ fn regular_with<T>(
 }
 
 // The same where `link` keeps sums, which tell those of the new row.
+#[inline(never)]
 fn summed_with<T>(
     heap: &mut Heap<T>,
     link: Link,
@@ -420,6 +425,7 @@ fn summed_with<T>(
 }
 
 // The same with the sums that it keeps.
+#[inline(always)]
 fn placed_with<T>(
     heap: &mut Heap<T>,
     link: Link,
@@ -438,6 +444,7 @@ fn placed_with<T>(
 }
 
 // The same where all its children are read for its sums.
+#[inline(never)]
 fn read_with<T>(
     heap: &mut Heap<T>,
     link: Link,
@@ -455,6 +462,7 @@ fn read_with<T>(
 }
 
 // The leaf over the first `keep` elements of `link`, then `element`, then its elements from the place `skip` on.
+#[inline(always)]
 pub(crate) fn leaf_with<T>(
     heap: &mut Heap<T>,
     link: Link,
@@ -474,7 +482,8 @@ pub(crate) fn leaf_with<T>(
 }
 
 // The node with this head over the first `keep` links of `link`, then `middle`, then its links from the place `skip` on. Where it is
-// `link` but for one link, the two share their owners.
+// `link` but for one link, the heap makes it by that change, and counts no owner of the other links.
+#[inline(always)]
 fn node_with<T>(
     heap: &mut Heap<T>,
     link: Link,
@@ -502,6 +511,30 @@ fn node_with<T>(
     if keep + 1 == skip {
         return heap.with_replaced(link, head, keep, middle);
     }
+    mixed_with(heap, link, head, keep, middle, skip)
+}
+
+// The same by a list of its links.
+#[inline(never)]
+fn mixed_with<T>(
+    heap: &mut Heap<T>,
+    link: Link,
+    head: Head,
+    keep: usize,
+    middle: Link,
+    skip: usize,
+) -> Link
+    requires graph { IsGraph heap.old }
+    requires live { IsSome (row_at heap.old link) }
+    requires keep { keep ≤ length (links_at heap.old link) }
+    requires skip { skip ≤ length (links_at heap.old link) }
+    requires few { keep + 1 + (length (links_at heap.old link) - skip) ≤ 32 }
+    requires held { 1 ≤ holds_at heap.old middle }
+    requires spare { 1 ≤ heap.old.spare_nodes }
+    requires holds { hold_count heap.old + 64 ≤ most_holds }
+    ensures row { row_at heap.new result ≡ Some (node head (links_with (links_at heap.old link) keep middle skip)) }
+    ensures builds { Builds heap.old heap.new (middle ∷ []) (result ∷ []) 0 1 }
+{
     let mut room = [Link::default(); ROW_LINKS];
     let count = write_links_with(heap, &mut room[..], link, keep, middle, skip);
     heap.node(head, &room[..count])

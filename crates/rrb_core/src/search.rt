@@ -46,6 +46,7 @@ pub(crate) fn sum_before(sums: &[u32], place: usize) -> u32
 /// The child of an inner row that holds the element at `index`; the children have the height `below`. Where the row keeps
 /// no sums it is the one where `index` is if all children are full, and else the search starts there, since that is never
 /// past the right child.
+#[inline]
 pub fn spot_of<T>(heap: &Heap<T>, link: Link, below: u8, index: u32) -> IndexSpot
     requires well { IsWell (form_at heap.now) (suc below) link }
     requires sums { HasSums heap.now (suc below) link }

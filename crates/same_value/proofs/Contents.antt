@@ -21,7 +21,7 @@ use Rattle.champ_kinds.proofs.ZipLemmas.{all-turned, zip-follows}
 use Rattle.same_value.specs.Congruent.{Congruent, AreCongruent, congruent_entries, congruent_none, congruent_then}
 use Rattle.same_value.proofs.CongruentLemmas.{rows-congruent, congruent-take, congruent-drop, entries-congruent}
 use Rattle.same_value.proofs.Zips.{zip-both}
-use Rattle.champ_trie.proofs.BelowLemmas.{Stands, at-counted, link-child, child-stands, stands-reach, trie-opened}
+use Rattle.champ_trie.proofs.CallerLemmas.{Stands, at-counted, link-child, child-stands, stands-reach, trie-opened}
 use Rattle.same_value.proofs.TriePairs.{all-left, all-right, rows-follow, reach-step}
 
 module _ {K : Type 0} (cmp : K → K → Ordering) (code : K → ℕ) (F : Forms K) where

@@ -12,7 +12,7 @@ use Rattle.rrb_core.proofs.Lists.{items-drop}
 use Rattle.rrb_core.proofs.RowLists.{over, child-at}
 use Rattle.rrb_core.proofs.Stays.{links-form}
 use Rattle.same_value.specs.CompareLaws.{all-itself}
-use Rattle.same_value.specs.declared.places.Place.{Place}
+use Rattle.same_value.specs.declared.places.RowOnWay.{RowOnWay}
 use Rattle.same_value.specs.Lines.{DifferSomewhere, BeginAlike}
 use Rattle.same_value.specs.Places.{rest_of, IsOnWay}
 use Rattle.same_value.proofs.Zips.{zip-by, zip-both, differ-inside}
@@ -33,7 +33,7 @@ module _ {T : Type 0} (h : Heap T) where
       }
 
   -- the child of the row that has the element
-  pub lower-way : (xs : List ℕ) (p : Place) (n i link within : ℕ) → suc n ≡ p.height → IsOnWay h xs p → i < length (links_at h p.link) → link ≡ get_or (links_at h p.link) i 0
+  pub lower-way : (xs : List ℕ) (p : RowOnWay) (n i link within : ℕ) → suc n ≡ p.height → IsOnWay h xs p → i < length (links_at h p.link) → link ≡ get_or (links_at h p.link) i 0
       → within < length (seq_at (form_at h) n (get_or (links_at h p.link) i 0)) → length (flat_map (seq_at (form_at h) n) (take i (links_at h p.link))) + within ≡ p.within → IsOnWay h xs (record { link = link; height = n; within = within })
   lower-way xs p n i link within up way place at small before =
       let f : ℕ → List ℕ = seq_at (form_at h) n in
@@ -55,7 +55,7 @@ module _ {T : Type 0} (h : Heap T) where
         front = way.front ∙ ap (λ ys. ys ++ way.later) here ∙ append_assoc (drop within (f link)) rest way.later;
       }
 
-module _ {T : Type 0} {h : Heap T} {xs : List ℕ} {p : Place} (way : IsOnWay h xs p) where
+module _ {T : Type 0} {h : Heap T} {xs : List ℕ} {p : RowOnWay} (way : IsOnWay h xs p) where
   pub rest-some : 1 ≤ length (rest_of h p)
   rest-some = omega (arith, length-drop p.within (seq_at (form_at h) p.height p.link), way.inside)
 
@@ -124,7 +124,7 @@ module _ (R : ℕ → ℕ → Type 0) where
       }
 
   -- two leaves
-  module _ {T : Type 0} {h : Heap T} {xs ys : List ℕ} {p q : Place} (way : IsOnWay h xs p) (way' : IsOnWay h ys q) where
+  module _ {T : Type 0} {h : Heap T} {xs ys : List ℕ} {p q : RowOnWay} (way : IsOnWay h xs p) (way' : IsOnWay h ys q) where
     pub leaves-alike : (count : ℕ) → BeginAlike R count (rest_of h p) (rest_of h q) → BeginAlike R count xs ys
     leaves-alike count b = rw (way.front, way'.front) (alike-more count (rest_of h p) (rest_of h q) way.later way'.later b)
 

@@ -24,7 +24,7 @@ use Rattle.same_value.specs.Congruent.{Congruent, AreCongruent, congruent_entrie
 use Rattle.same_value.specs.Apart.{IsApart, Spends}
 use Rattle.same_value.proofs.CongruentLemmas.{congruent-zip, congruent-at, congruent-by, congruent-take, links-congruent, entries-congruent}
 use Rattle.same_value.proofs.Zips.{zip-at}
-use Rattle.champ_trie.proofs.BelowLemmas.{one-counted, child-at, link-child, child-stands, child-link, stands-reach, stands-deeper, one-digit, Stands, trie-opened}
+use Rattle.champ_trie.proofs.CallerLemmas.{one-counted, child-at, link-child, child-stands, child-link, stands-reach, stands-deeper, one-digit, Stands, trie-opened}
 
 module _ {X : Type 0} (P : X → Type 0) where
   pub all-left : (xs ys : List X) → All P (xs ++ ys) → All P xs

@@ -4,15 +4,15 @@ use Rattle.node_heap.specs.Heap.{Heap, form_at}
 use Rattle.node_heap.specs.declared.row.TheConstants.{MOST_HEIGHT}
 use Rattle.rrb_core.specs.Seq.{seq_at, IsWell}
 use Rattle.rrb_core.specs.Vector.{HasSums}
-use Rattle.same_value.specs.declared.places.Place.{Place}
+use Rattle.same_value.specs.declared.places.RowOnWay.{RowOnWay}
 
 module _ {T : Type 0} where
   -- the elements below the row, from the one of the place on
-  abbrev pub rest_of : Heap T → Place → List ℕ
+  abbrev pub rest_of : Heap T → RowOnWay → List ℕ
   rest_of h p = drop p.within (seq_at (form_at h) p.height p.link)
 
   -- the row is one of a vector, and its elements from the one of the place on are the first of these
-  pub record IsOnWay (h : Heap T) (xs : List ℕ) (p : Place) : Type 0 where
+  pub record IsOnWay (h : Heap T) (xs : List ℕ) (p : RowOnWay) : Type 0 where
     pub well : IsWell (form_at h) p.height p.link
     pub sums : HasSums h p.height p.link
     pub low : p.height ≤ MOST_HEIGHT

@@ -23,7 +23,7 @@ use Rattle.same_value.specs.Apart.{HasApart}
 use Rattle.champ_trie.proofs.BelowLemmas.{once-fits, one-counted, rows-reached, stands-reach, trie-stands, stands-deeper, one-digit}
 use Rattle.set_merge.specs.declared.keeps.Keeps.{Keeps}
 use Rattle.set_merge.specs.Side.{place_in, lone_place, place_below, settled}
-use Rattle.set_merge.specs.Need.{without, sum_below, need_unless, rows_need}
+use Rattle.set_merge.specs.Need.{not_among, sum_below, need_unless, rows_need}
 use Rattle.set_merge.specs.Walk.{HasBelow, position_need}
 use Rattle.set_merge.proofs.MergeLemmas.{filter-short}
 use Rattle.set_merge.proofs.NeedLemmas.{sum-one, below-place, place-has}
@@ -54,24 +54,24 @@ counted-node : (q : Place) (k : ℕ) → q ≡ Node k → 0 < count k (node_link
 counted-node q k is = subst (λ r. 0 < count k (node_links r)) (sym is) (omega (arith, count-cons k k [], one_at-same k))
 
 -- those of the links that the others haven't
-without-count : (k : ℕ) (xs ys : List ℕ) → count k (without xs ys) ≤ count k xs
+without-count : (k : ℕ) (xs ys : List ℕ) → count k (not_among xs ys) ≤ count k xs
 without-count k [] ys = omega arith
 without-count k (x ∷ xs) ys = by_test (nat_eq (count x ys) 0) (without-count k xs ys)
   where
-    by_test : (b : Bool) → count k (without xs ys) ≤ count k xs → count k (cond b (x ∷ without xs ys) (without xs ys)) ≤ count k (x ∷ xs)
-    by_test true rest = omega (arith, rest, count-cons k x xs, count-cons k x (without xs ys))
+    by_test : (b : Bool) → count k (not_among xs ys) ≤ count k xs → count k (cond b (x ∷ not_among xs ys) (not_among xs ys)) ≤ count k (x ∷ xs)
+    by_test true rest = omega (arith, rest, count-cons k x xs, count-cons k x (not_among xs ys))
     by_test false rest = omega (arith, rest, count-cons k x xs)
 
-without-none : (k : ℕ) (xs ys : List ℕ) → 0 < count k (without xs ys) → count k ys ≡ 0
+without-none : (k : ℕ) (xs ys : List ℕ) → 0 < count k (not_among xs ys) → count k ys ≡ 0
 without-none k [] ys some = absurd (omega (arith, some))
 without-none k (x ∷ xs) ys some = by_test (nat_eq (count x ys) 0) refl some (without-none k xs ys)
   where
-    by_test : (b : Bool) → nat_eq (count x ys) 0 ≡ b → 0 < count k (cond b (x ∷ without xs ys) (without xs ys)) → (0 < count k (without xs ys) → count k ys ≡ 0) → count k ys ≡ 0
+    by_test : (b : Bool) → nat_eq (count x ys) 0 ≡ b → 0 < count k (cond b (x ∷ not_among xs ys) (not_among xs ys)) → (0 < count k (not_among xs ys) → count k ys ≡ 0) → count k ys ≡ 0
     by_test true is more again = by_case (cases_eq x k)
       where
         by_case : (x ≡ k) ⊎ (x ≢ k) → count k ys ≡ 0
         by_case (inl same) = subst (λ j. count j ys ≡ 0) same (eqb-true (count x ys) 0 is)
-        by_case (inr other) = again (omega (arith, more, count-cons k x (without xs ys), one_at-other x k other))
+        by_case (inr other) = again (omega (arith, more, count-cons k x (not_among xs ys), one_at-other x k other))
     by_test false is more again = again more
 
 module _ {K : Type 0} (F : Forms K) where
@@ -155,7 +155,7 @@ module _ {K : Type 0} (F : Forms K) where
 
     -- the rows of two chains, each without those of the other
     pub chains-charged : (most l m : ℕ) (es ds : List (Entry K)) → AreChainRows F (Some l) es → AreChainRows F (Some m) ds → length es ≤ most → length ds ≤ most
-        → Charged (Node l) (Node m) (length (without (rows_from most F l) (rows_from most F m)) + length (without (rows_from most F m) (rows_from most F l))) 0
+        → Charged (Node l) (Node m) (length (not_among (rows_from most F l) (rows_from most F m)) + length (not_among (rows_from most F m) (rows_from most F l))) 0
     chains-charged most l m es ds first second fit fit' = record {
       rows = xs ++ ys;
       once = λ k. by_counts k (count k xs) (count k ys) refl refl;
@@ -170,10 +170,10 @@ module _ {K : Type 0} (F : Forms K) where
         ms = rows_from most F m
 
         xs : List ℕ
-        xs = without ls ms
+        xs = not_among ls ms
 
         ys : List ℕ
-        ys = without ms ls
+        ys = not_among ms ls
 
         by_counts : (k a b : ℕ) → count k xs ≡ a → count k ys ≡ b → count k (xs ++ ys) ≤ 1
         by_counts k zero b is is' = omega (arith, count-append k xs ys, is, without-count k ms ls, chain-once most m ds second k)
@@ -189,7 +189,7 @@ module _ {K : Type 0} (F : Forms K) where
             inl (rows-reached F most l k (omega (arith, there, without-count k ls ms)), λ down. omega (arith, without-none k ls ms there, chain-all m k down most ds second fit'))
 
     -- the rows of a chain beside an entry
-    pub chain-charged : (most l y : ℕ) (es : List (Entry K)) → AreChainRows F (Some l) es → 1 ≤ most → Charged (Node l) (At y) (length (without (rows_from most F l) (y ∷ [])) + length (without (y ∷ []) (rows_from most F l))) 0
+    pub chain-charged : (most l y : ℕ) (es : List (Entry K)) → AreChainRows F (Some l) es → 1 ≤ most → Charged (Node l) (At y) (length (not_among (rows_from most F l) (y ∷ [])) + length (not_among (y ∷ []) (rows_from most F l))) 0
     unfolding rows_from
     chain-charged most l y es rows some = record {
       rows = rows_from most F l;
@@ -198,7 +198,7 @@ module _ {K : Type 0} (F : Forms K) where
       few = omega (arith, short (rows_from most F l) (y ∷ []), short (y ∷ []) (rows_from most F l), begins most some);
     }
       where
-        short : (zs us : List ℕ) → length (without zs us) ≤ length zs
+        short : (zs us : List ℕ) → length (not_among zs us) ≤ length zs
         short zs us = filter-short (λ i. nat_eq (count i us) 0) zs
 
         begins : (n : ℕ) → 1 ≤ n → 1 ≤ length (rows_from n F l)

@@ -26,7 +26,7 @@ use Rattle.set_merge.specs.declared.chains.Fronts.{Fronts}
 use Rattle.set_merge.specs.declared.merged.Merged.{Merged}
 use Rattle.set_merge.specs.declared.merged.Merged.TheVariants.{Old}
 use Rattle.set_merge.specs.Merge.{merged}
-use Rattle.set_merge.specs.Need.{run_rows, without, chains_need}
+use Rattle.set_merge.specs.Need.{run_rows, not_among, chains_need}
 use Rattle.set_merge.specs.Spread.{new_links}
 use Rattle.set_merge.specs.Walk.{AreKept, HasBelow, IsRun, IsRisingRun}
 use Rattle.set_merge.specs.Chains.{waiting, AreFronts, IsOver}
@@ -57,7 +57,7 @@ module _ {K : Type 0} (F G : Forms K) (kept : AreKept F G) where
   same-rows n (Node l) es is = chain-rows n l es is
 
   pub same-need : (n : ℕ) (a b : Place) (es ds : List (Entry K)) → IsRun F a es → IsRun F b ds → chains_need n F a b ≡ chains_need n G a b
-  same-need n a b es ds first second = ap (λ xs. length (without xs (run_rows n F b)) + length (without (run_rows n F b) xs)) (same-rows n a es first) ∙ ap (λ ys. length (without (run_rows n G a) ys) + length (without ys (run_rows n G a))) (same-rows n b ds second)
+  same-need n a b es ds first second = ap (λ xs. length (not_among xs (run_rows n F b)) + length (not_among (run_rows n F b) xs)) (same-rows n a es first) ∙ ap (λ ys. length (not_among (run_rows n G a) ys) + length (not_among ys (run_rows n G a))) (same-rows n b ds second)
 
 module _ {K : Type 0} (cmp : K → K → Ordering) where
   -- the rising run of what stands below the deepest row

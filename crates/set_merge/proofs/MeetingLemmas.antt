@@ -24,7 +24,7 @@ use Rattle.champ_trie.specs.Walk.{rows_below, rows_from}
 use Rattle.champ_trie.specs.declared.place.Place.{Place}
 use Rattle.champ_trie.specs.declared.place.Place.TheVariants.{Empty, Entry as At, Node}
 use Rattle.set_merge.specs.declared.merged.Merged.TheVariants.{Old}
-use Rattle.set_merge.specs.Need.{run_rows, without}
+use Rattle.set_merge.specs.Need.{run_rows, not_among}
 use Rattle.set_merge.specs.Walk.{IsRun, IsRisingRun}
 use Rattle.set_merge.specs.Chains.{place_from, waiting, IsRest}
 use Rattle.set_merge.proofs.MergeLemmas.{append-none, filter-same, filter-all, filter-none}
@@ -271,7 +271,7 @@ among-append-right l [] ys i = i
 among-append-right l (x ∷ xs) ys i = inr (among-append-right l xs ys i)
 
 -- those of some links that aren't among the others
-without-front : (ls ms : List ℕ) (i : ℕ) → i ≤ length ls → ((l : ℕ) → Among l (take i ls) → count l ms ≡ 0) → ((l : ℕ) → Among l (drop i ls) → 0 < count l ms) → length (without ls ms) ≡ i
+without-front : (ls ms : List ℕ) (i : ℕ) → i ≤ length ls → ((l : ℕ) → Among l (take i ls) → count l ms ≡ 0) → ((l : ℕ) → Among l (drop i ls) → 0 < count l ms) → length (not_among ls ms) ≡ i
 without-front ls ms i few out among =
     let test : ℕ → Bool = λ l. nat_eq (count l ms) 0 in
     let first : filter test (take i ls) ≡ take i ls = filter-same test (λ l. true) (take i ls) (λ l a. eq-eqb (count l ms) 0 (out l a)) ∙ filter-all (take i ls) in
@@ -381,7 +381,7 @@ module _ {K : Type 0} (F : Forms K) (cmp : K → K → Ordering) (o : IsTotalOrd
             (below-push cmp o e'.key (take j ds) d (below-less F cmp o e.key e'.key (take j ds) less (p.left_below e us here)) (sym (o.congr e.key d.key e'.key equal) ∙ less))
 
     -- where both end in one place
-    pub meets-end : left ≡ right → IsRun F left (drop i es) × (drop i es ≡ drop j ds) × (length (without ls ms) ≡ i)
+    pub meets-end : left ≡ right → IsRun F left (drop i es) × (drop i es ≡ drop j ds) × (length (not_among ls ms) ≡ i)
     meets-end same = (
       p.left_run,
       run-only F left (drop i es) (drop j ds) p.left_run (subst (λ q. IsRun F q (drop j ds)) (sym same) p.right_run),
@@ -612,12 +612,12 @@ module _ {T : Type 0} (cmp : T → T → Ordering) (o : IsTotalOrder cmp) (h : H
           (front equal-here.first equal-here.others (subst (IsRun (form_at h) left) equal-here.whole p.left_run)).1 (front' equal-here.second equal-here.rest (subst (IsRun (form_at h) right) equal-here.other_whole p.right_run)).1 equal-here.equal other
 
     -- both are at one place
-    pub turn-end : left ≡ right → IsRun (form_at h) left (drop i es) × (drop i es ≡ drop j ds) × (i ≡ length (without (run_rows row_limit (form_at h) a) (run_rows row_limit (form_at h) b)))
+    pub turn-end : left ≡ right → IsRun (form_at h) left (drop i es) × (drop i es ≡ drop j ds) × (i ≡ length (not_among (run_rows row_limit (form_at h) a) (run_rows row_limit (form_at h) b)))
     turn-end same =
         let end = meets-end (form_at h) cmp o row_limit es ds (run_rows row_limit (form_at h) a) (run_rows row_limit (form_at h) b) first.rising second.rising keyed-first keyed-second few-first left right i j p same in
         (end.0, end.1, sym end.2)
 
-    pub turn-end_right : left ≡ right → j ≡ length (without (run_rows row_limit (form_at h) b) (run_rows row_limit (form_at h) a))
+    pub turn-end_right : left ≡ right → j ≡ length (not_among (run_rows row_limit (form_at h) b) (run_rows row_limit (form_at h) a))
     turn-end_right same =
         sym (meets-end (form_at h) cmp o row_limit ds es (run_rows row_limit (form_at h) b) (run_rows row_limit (form_at h) a) second.rising first.rising keyed-second keyed-first few-second right left j i
         (meets-turned (form_at h) cmp o row_limit es ds (run_rows row_limit (form_at h) a) (run_rows row_limit (form_at h) b) left right i j p) (sym same)).2

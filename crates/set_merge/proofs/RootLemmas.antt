@@ -115,10 +115,10 @@ module _ {T : Type 0} where
       root-stood root (inr two) = subst (λ l. IsCanon cmp code (form_at mid) l (merged cmp k E D)) (sym two.1) (root-second two.0)
 
       -- a new root
-      pub root-made : (new : Heap T) (l : ℕ) → KeepsForms (form_at mid) (form_at new) → IsRow (form_at new) l 0 s.entries s.nodes s.links → IsCanon cmp code (form_at new) l (merged cmp k E D)
+      pub root-made : (new : Heap T) (l : ℕ) → KeepsForms (form_at mid) (form_at new) → IsRow (form_at new) l 0 s.row.entries s.row.nodes s.row.links → IsCanon cmp code (form_at new) l (merged cmp k E D)
       root-made new l later row = record {
         trie = row-stands cmp code (form_at new) DEEPEST 0 (standing s) (merged cmp k E D)
-            (λ p low. place-kept cmp code (form_at mid) (form_at new) later DEEPEST 1 (standing s p) (part cmp code 0 p (merged cmp k E D)) (is.places p low)) l s.entries s.nodes s.links row (λ p low. refl);
+            (λ p low. place-kept cmp code (form_at mid) (form_at new) later DEEPEST 1 (standing s p) (part cmp code 0 p (merged cmp k E D)) (is.places p low)) l s.row.entries s.row.nodes s.row.links row (λ p low. refl);
         distinct = merged-apart;
       }
 
@@ -127,10 +127,10 @@ module _ {T : Type 0} where
     root-alive mid P Q root more (inr two) = subst (λ l. IsSome (row_at mid l)) (sym two.1) (more.live b (canon-live cmp code h b D second))
 
     -- the row of nothing
-    pub root-empty : (new : Heap T) (l : ℕ) (s : Spread) → IsBlank s → a ≡ b → k.both ≡ false → IsRow (form_at new) l 0 s.entries s.nodes s.links → IsCanon cmp code (form_at new) l (merged cmp k E D)
+    pub root-empty : (new : Heap T) (l : ℕ) (s : Spread) → IsBlank s → a ≡ b → k.both ≡ false → IsRow (form_at new) l 0 s.row.entries s.row.nodes s.row.links → IsCanon cmp code (form_at new) l (merged cmp k E D)
     root-empty new l s blank same not row =
         subst (IsCanon cmp code (form_at new) l) (sym (one-merged same ∙ ap (λ t. cond t E []) not)) (record {
-          trie = row-stands cmp code (form_at new) DEEPEST 0 (λ p. Empty) [] (λ p low. refl) l s.entries s.nodes s.links row (λ p low. blank.places p);
+          trie = row-stands cmp code (form_at new) DEEPEST 0 (λ p. Empty) [] (λ p low. refl) l s.row.entries s.row.nodes s.row.links row (λ p low. blank.places p);
           distinct = record { once = λ key. omega arith };
         })
 

@@ -208,10 +208,10 @@ sum-next f n = refl
 
 -- one position more
 pub record Puts (s t : Spread) (n : ℕ) (x y : Place) (m : Merged) : Type 0 where
-  pub sets : AreSets t.entries t.nodes t.links
+  pub sets : AreSets t.row.entries t.row.nodes t.row.links
   pub here : standing t n ≡ place_merged m
   pub others : (p : ℕ) → p < 32 → p ≢ n → standing t p ≡ standing s p
-  pub links : (l : ℕ) → count l t.links ≡ count l s.links + count l (links_at_place (place_merged m))
+  pub links : (l : ℕ) → count l t.row.links ≡ count l s.row.links + count l (links_at_place (place_merged m))
   pub stood : t.stood ≡ s.stood ++ old_links m
   pub made : t.made ≡ (s.made || is_new m)
   pub as_first : t.as_first ≡ true → (s.as_first ≡ true) × (place_merged m ≡ x)
@@ -277,10 +277,10 @@ module _ {T : Type 0} where
     module _ (old now : Heap T) (left depth : ℕ) (a b : Place) (M : List (Entry T)) (s : Spread) (is : IsSpread cmp code most k F old now left depth a b M s 32) where
       pub spread-live : (l : ℕ) → 0 < count l s.stood → IsSome (row_at now l)
       spread-live l some =
-          let found = link-there s.entries s.nodes s.links is.sets l (omega (arith, some, is.counted l)) in
+          let found = link-there s.row.entries s.row.nodes s.row.links is.sets l (omega (arith, some, is.counted l)) in
           place-live cmp code now left (suc depth) (standing s found.0) (part cmp code depth found.0 M) (is.places found.0 found.1) l found.2
 
-      pub spread-held : (l : ℕ) → count l s.links ≤ holds_at now l + count l s.stood
+      pub spread-held : (l : ℕ) → count l s.row.links ≤ holds_at now l + count l s.stood
       spread-held l = omega (arith, is.counted l, is.builds.holds l)
 
     -- nothing at any position
@@ -431,11 +431,11 @@ module _ {T : Type 0} where
           unchanged : (place : Place) → IsUnchanged s x y place → StandsIn H place M
           unchanged place (inl first) = subst (λ r. StandsIn H r M) (sym first.1) (unchanged-as x E are.first (is.as_first first.0))
           unchanged place (inr (inl second)) = subst (λ r. StandsIn H r M) (sym second.1) (unchanged-as y D are.second (is.as_second second.0))
-          unchanged place (inr (inr only)) = lone-stands cmp code H n (suc depth) s.entries s.nodes s.links M is.sets is.places (λ l P. IsTrie cmp code H (suc n) (suc depth) l P) place only
+          unchanged place (inr (inr only)) = lone-stands cmp code H n (suc depth) s.row.entries s.row.nodes s.row.links M is.sets is.places (λ l P. IsTrie cmp code H (suc n) (suc depth) l P) place only
 
           some-more : WantsRow s → 2 ≤ length M
           some-more (inl some) = (let at = is.made some in node-two cmp code H n (suc depth) q M is.places at.0 at.1 at.2 at.3)
-          some-more (inr none) = lone-two cmp code H n (suc depth) s.entries s.nodes s.links M is.sets is.places none.2
+          some-more (inr none) = lone-two cmp code H n (suc depth) s.row.entries s.row.nodes s.row.links M is.sets is.places none.2
 
           pub come-closed : (m : Merged) → settled cmp G k x y ≡ None → Closed mid new s (suc depth) x y m → IsCome cmp code most k F h new left depth x y M m
           come-closed (Old place) look closed = record {
@@ -449,13 +449,13 @@ module _ {T : Type 0} where
               some-more made.more,
               subst (λ i. IsTrie cmp code (form_at new) i (suc depth) l M) (sym more)
                   (row-stands cmp code (form_at new) n (suc depth) q M (λ p low. place-kept cmp code H (form_at new) later n (suc (suc depth)) (q p) (part cmp code (suc depth) p M) (is.places p low))
-                  l s.entries s.nodes s.links made.row (λ p low. refl)),
+                  l s.row.entries s.row.nodes s.row.links made.row (λ p low. refl)),
             );
           }
 
 -- what a closed spread keeps
 module _ {T : Type 0} where
-  pub closed-kept : (mid new : Heap T) (s : Spread) (d : ℕ) (x y : Place) (m : Merged) (news : List ℕ) → ((l : ℕ) → count l s.stood + count l news ≡ count l s.links) → Closed mid new s d x y m → KeepsForms (form_at mid) (form_at new)
+  pub closed-kept : (mid new : Heap T) (s : Spread) (d : ℕ) (x y : Place) (m : Merged) (news : List ℕ) → ((l : ℕ) → count l s.stood + count l news ≡ count l s.row.links) → Closed mid new s d x y m → KeepsForms (form_at mid) (form_at new)
   closed-kept mid new s d x y (Old place) news counted closed = subst (λ i. KeepsForms (form_at mid) (form_at i)) (sym closed.0) (record { kept = λ l f is. is })
   closed-kept mid new s d x y (New l) news counted made = forms-kept mid new (made.builds news counted).extends
 

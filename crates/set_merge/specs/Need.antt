@@ -15,8 +15,8 @@ use Rattle.set_merge.specs.declared.keeps.TheConstants.{UNION, BOTH, LESS}
 use Rattle.set_merge.specs.Side.{place_below, settled}
 
 -- those of the links that aren't among the others
-abbrev pub without : List ℕ → List ℕ → List ℕ
-without links others = filter (λ l. nat_eq (count l others) 0) links
+abbrev pub not_among : List ℕ → List ℕ → List ℕ
+not_among links others = filter (λ l. nat_eq (count l others) 0) links
 
 -- the numbers from 0 below the bound, added up
 unfoldable pub sum_below : ℕ → (ℕ → ℕ) → ℕ
@@ -37,7 +37,7 @@ module _ {K : Type 0} (most : ℕ) (F : Forms K) where
 
   -- the chain rows of each that the other hasn't
   abbrev pub chains_need : Place → Place → ℕ
-  chains_need a b = length (without (run_rows a) (run_rows b)) + length (without (run_rows b) (run_rows a))
+  chains_need a b = length (not_among (run_rows a) (run_rows b)) + length (not_among (run_rows b) (run_rows a))
 
 module _ {K : Type 0} (cmp : K → K → Ordering) (code : K → ℕ) (most : ℕ) (F : Forms K) (k : Keeps) where
   -- from a depth down, a row for the two places and for each position below at which both have something and not the same, so that

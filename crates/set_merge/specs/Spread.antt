@@ -31,7 +31,7 @@ is_new (New l) = true
 
 -- what stands at a position so far
 abbrev pub standing : Spread → ℕ → Place
-standing s p = place_of s.entries s.nodes s.links p
+standing s p = place_of s.row.entries s.row.nodes s.row.links p
 
 -- nothing where nothing stands at any position, the entry where it is all that stands there, and else None
 abbrev pub lone_in : List ℕ → ℕ → Option Place
@@ -41,7 +41,7 @@ lone_in (x ∷ []) (suc nodes) = None
 lone_in (x ∷ y ∷ links) nodes = None
 
 abbrev pub lone_of : Spread → Option Place
-lone_of s = lone_in s.links s.nodes
+lone_of s = lone_in s.row.links s.row.nodes
 
 -- the place is the first or the second one, as all positions are, or what is all that stands there
 abbrev pub IsUnchanged : Spread → Place → Place → Place → Type 0
@@ -49,9 +49,9 @@ IsUnchanged s a b place = ((s.as_first ≡ true) × (place ≡ a)) ⊎ ((s.as_se
 
 -- nothing was put there yet
 pub record IsBlank (s : Spread) : Type 0 where
-  pub sets : AreSets s.entries s.nodes s.links
+  pub sets : AreSets s.row.entries s.row.nodes s.row.links
   pub places : (p : ℕ) → standing s p ≡ Empty
-  pub links : s.links ≡ []
+  pub links : s.row.links ≡ []
   pub stood : s.stood ≡ []
   pub made : s.made ≡ false
   pub as_first : s.as_first ≡ true
@@ -65,8 +65,8 @@ WantsRow s = (s.made ≡ true) ⊎ (s.as_first ≡ false) × (s.as_second ≡ fa
 module _ {T : Type 0} where
   -- a row like this was made, and the holds of the nodes that weren't there before were spent
   pub record IsMade (old new : Heap T) (s : Spread) (depth l : ℕ) : Type 0 where
-    pub row : IsRow (form_at new) l depth s.entries s.nodes s.links
-    pub builds : (news : List ℕ) → ((k : ℕ) → count k s.stood + count k news ≡ count k s.links) → Builds old new news (l ∷ []) 0 1
+    pub row : IsRow (form_at new) l depth s.row.entries s.row.nodes s.row.links
+    pub builds : (news : List ℕ) → ((k : ℕ) → count k s.stood + count k news ≡ count k s.row.links) → Builds old new news (l ∷ []) 0 1
     pub more : WantsRow s
 
   -- what stands for a row of these positions: where none is new, an old place, and else a row that was made

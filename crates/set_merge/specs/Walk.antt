@@ -80,12 +80,12 @@ module _ {T : Type 0} (cmp : T → T → Ordering) (code : T → ℕ) (most : �
   -- the first so many positions of the merge of two places, as rows of a depth: they stand for these entries, the nodes that were
   -- made are held, and no more rows came than these positions need
   pub record IsSpread (F : Forms T) (old now : Heap T) (left depth : ℕ) (a b : Place) (M : List (Entry T)) (s : Spread) (n : ℕ) : Type 0 where
-    pub sets : AreSets s.entries s.nodes s.links
+    pub sets : AreSets s.row.entries s.row.nodes s.row.links
     pub places : HavePlaces cmp code (form_at now) left depth n (standing s) M
     pub rest : (p : ℕ) → n ≤ p → p < 32 → standing s p ≡ Empty
     pub news : List ℕ
     pub builds : Builds old now [] news 0 (sum_below n (position_need cmp code most F k left depth a b))
-    pub counted : (l : ℕ) → count l s.stood + count l news ≡ count l s.links
+    pub counted : (l : ℕ) → count l s.stood + count l news ≡ count l s.row.links
     pub few : length s.stood + length news ≤ n
     pub unmade : s.made ≡ false → news ≡ []
     pub made : s.made ≡ true → (p : ℕ) × (l : ℕ) × (p < n) × (standing s p ≡ Node l)

@@ -5,7 +5,7 @@ ghost use Rattle.std.specs.declared.cmp.Ordering.TheVariants.{Less, Greater};
 ghost use Rattle.node_heap.specs.Heap.{form_at, IsGraph, row_limit};
 ghost use Rattle.champ_chain.specs.Entry.{Entry, key_at};
 ghost use Rattle.champ_chain.specs.Chain.{AreBelow};
-ghost use Rattle.set_merge.specs.Need.{run_rows, without};
+ghost use Rattle.set_merge.specs.Need.{run_rows, not_among};
 ghost use Rattle.set_merge.specs.Chains.{IsRest, waiting};
 ghost use Rattle.set_merge.specs.Walk.{IsRun, IsRisingRun};
 ghost use Rattle.set_merge.specs.declared.merged.Merged.TheVariants.{Old};
@@ -64,8 +64,8 @@ pub(crate) fn meeting_of<T: Element>(heap: &Heap<T>, a: &Place, b: &Place) -> Me
     requires second { (ds : List (Entry T)) × IsRisingRun (form_at heap.now) T.cmp b.now ds }
     ensures meeting { (es ds : List (Entry T)) → IsRisingRun (form_at heap.now) T.cmp a.now es → IsRisingRun (form_at heap.now) T.cmp b.now ds →
         (result.first ≤ length es) × (result.second ≤ length ds) × IsRun (form_at heap.now) result.shared (drop result.first es) × (drop result.first es ≡ drop result.second ds) }
-    ensures first { result.first ≡ length (without (run_rows row_limit (form_at heap.now) a.now) (run_rows row_limit (form_at heap.now) b.now)) }
-    ensures second { result.second ≡ length (without (run_rows row_limit (form_at heap.now) b.now) (run_rows row_limit (form_at heap.now) a.now)) }
+    ensures first { result.first ≡ length (not_among (run_rows row_limit (form_at heap.now) a.now) (run_rows row_limit (form_at heap.now) b.now)) }
+    ensures second { result.second ≡ length (not_among (run_rows row_limit (form_at heap.now) b.now) (run_rows row_limit (form_at heap.now) a.now)) }
     ensures few { (result.first < row_limit) × (result.second < row_limit) }
     ensures rows { 0 < result.first + result.second → waiting (Old result.shared) ≡ 0 }
 {

@@ -10,7 +10,7 @@ ghost use Rattle.set_merge.specs.Side.{place_below, settled, has_place, IsKept, 
 
 use crate::keeps::Keeps;
 use champ_chain::key_of;
-use champ_trie::{Place, contains, rank_of, with_position};
+use champ_trie::{Place, place_among, with_position};
 use elem_core::{CODE_BITS, DEEPEST, Element, digit, masked};
 use node_heap::{Heap, Link};
 use std::cmp::Ordering;
@@ -94,14 +94,7 @@ fn place_at<T>(heap: &Heap<T>, row: Link, entries: u32, nodes: u32, position: u3
     ensures { (depth : ℕ) (links : List ℕ) → IsRow (form_at heap.now) row depth entries nodes links →
         result ≡ place_of entries nodes links position }
 {
-    if contains(entries, position) {
-        return Place::Entry(heap.links(row)[rank_of(entries, position) as usize]);
-    }
-    if contains(nodes, position) {
-        let place = entries.count_ones() + rank_of(nodes, position);
-        return Place::Node(heap.links(row)[place as usize]);
-    }
-    Place::Empty
+    place_among(entries, nodes, heap.links(row), position)
 }
 
 // The first position of the set from this one on, 32 where there is none.

@@ -8,16 +8,14 @@ ghost use Rattle.champ_trie.specs.declared.place.Place.TheVariants.{Empty};
 ghost use Rattle.set_merge.specs.Spread.{place_merged, old_links, is_new, standing, lone_of, IsBlank, IsUnchanged, Closed};
 
 use crate::merged::{Merged, is_same};
-use champ_trie::{Place, node_index, rank_of, with_position};
-use node_heap::{Head, Heap, Link, RowLinks};
+use champ_trie::{DraftRow, Place};
+use node_heap::{Heap, Link, RowLinks};
 
 // What stands at each position of a row that is being merged.
 #[derive(Drop)]
 pub(crate) struct Spread {
-    // The positions of its entries and those of its nodes, and the links of these in the order of a row.
-    entries: u32,
-    nodes: u32,
-    links: RowLinks,
+    // What stands at its positions so far.
+    row: DraftRow,
     // The links of what stood before, of which no hold is taken yet.
     stood: RowLinks,
     // Whether a node was made.
@@ -33,9 +31,7 @@ impl Spread {
         ensures blank { IsBlank result }
     {
         Spread {
-            entries: 0,
-            nodes: 0,
-            links: RowLinks::new(),
+            row: DraftRow::empty(),
             stood: RowLinks::new(),
             made: false,
             as_first: true,
@@ -46,13 +42,13 @@ impl Spread {
     // Puts what was merged at the position, where nothing stands and the two places have these.
     pub(crate) fn put(&mut self, position: u32, merged: &Merged, a: &Place, b: &Place)
         requires position { position < 32 }
-        requires sets { AreSets self.old.entries self.old.nodes self.old.links }
+        requires sets { AreSets self.old.row.entries self.old.row.nodes self.old.row.links }
         requires free { standing self.old position ≡ Empty }
         requires room { length self.old.stood < 32 }
-        ensures sets { AreSets self.new.entries self.new.nodes self.new.links }
+        ensures sets { AreSets self.new.row.entries self.new.row.nodes self.new.row.links }
         ensures here { standing self.new position ≡ place_merged merged.now }
         ensures others { (p : ℕ) → p < 32 → p ≢ position → standing self.new p ≡ standing self.old p }
-        ensures links { (l : ℕ) → count l self.new.links ≡ count l self.old.links + count l (links_at_place (place_merged merged.now)) }
+        ensures links { (l : ℕ) → count l self.new.row.links ≡ count l self.old.row.links + count l (links_at_place (place_merged merged.now)) }
         ensures stood { self.new.stood ≡ self.old.stood ++ old_links merged.now }
         ensures made { self.new.made ≡ (self.old.made || is_new merged.now) }
         ensures as_first { (self.new.as_first ≡ true) → (self.old.as_first ≡ true) × (place_merged merged.now ≡ a.now) }
@@ -63,49 +59,20 @@ impl Spread {
         let place = merged.place();
         self.as_first = self.as_first && is_same(&place, a);
         self.as_second = self.as_second && is_same(&place, b);
-        self.place(position, place);
+        self.row.put(position, place);
         match *merged {
             Merged::Old(old) => keep(&mut self.stood, old),
             Merged::New(_) => self.made = true,
         }
     }
 
-    // Puts the place at a position where nothing stands.
-    fn place(&mut self, position: u32, place: Place)
-        requires position { position < 32 }
-        requires sets { AreSets self.old.entries self.old.nodes self.old.links }
-        requires free { standing self.old position ≡ Empty }
-        ensures sets { AreSets self.new.entries self.new.nodes self.new.links }
-        ensures here { standing self.new position ≡ place }
-        ensures others { (p : ℕ) → p < 32 → p ≢ position → standing self.new p ≡ standing self.old p }
-        ensures links { (l : ℕ) → count l self.new.links ≡ count l self.old.links + count l (links_at_place place) }
-        ensures stood { self.new.stood ≡ self.old.stood }
-        ensures made { self.new.made ≡ self.old.made }
-        ensures as_first { self.new.as_first ≡ self.old.as_first }
-        ensures as_second { self.new.as_second ≡ self.old.as_second }
-    {
-        match place {
-            Place::Empty => {}
-            Place::Entry(entry) => {
-                self.links
-                    .insert(rank_of(self.entries, position) as usize, entry);
-                self.entries = with_position(self.entries, position);
-            }
-            Place::Node(node) => {
-                let index = node_index(self.entries, self.nodes, position);
-                self.links.insert(index, node);
-                self.nodes = with_position(self.nodes, position);
-            }
-        }
-    }
-
     // What stands for the row in the one above: where no node was made, the first place or the second if all is as there, nothing
     // for no entry, and the entry for one; else a new row, which spends the holds of the new nodes.
     pub(crate) fn close<T>(&self, heap: &mut Heap<T>, depth: u8, a: &Place, b: &Place) -> Merged
-        requires sets { AreSets self.now.entries self.now.nodes self.now.links }
+        requires sets { AreSets self.now.row.entries self.now.row.nodes self.now.row.links }
         requires graph { IsGraph heap.old }
         requires live { (l : ℕ) → 0 < count l self.now.stood → IsSome (row_at heap.old l) }
-        requires held { (l : ℕ) → count l self.now.links ≤ holds_at heap.old l + count l self.now.stood }
+        requires held { (l : ℕ) → count l self.now.row.links ≤ holds_at heap.old l + count l self.now.stood }
         requires few { hold_count heap.old ≤ half_holds + 512 }
         requires spare { 0 < heap.old.spare_nodes }
         ensures closed { Closed heap.old heap.new self.now depth a.now b.now result }
@@ -136,10 +103,10 @@ impl Spread {
     fn lone(&self) -> Option<Place>
         ensures { result ≡ lone_of self.now }
     {
-        let links = self.links.as_slice();
+        let links = self.row.links.as_slice();
         match links.len() {
             0 => Some(Place::Empty),
-            1 if self.nodes == 0 => Some(Place::Entry(links[0])),
+            1 if self.row.nodes == 0 => Some(Place::Entry(links[0])),
             _ => None,
         }
     }
@@ -161,23 +128,18 @@ impl Spread {
 
     // A new row of the depth. It spends the holds of the new nodes.
     pub(crate) fn make<T>(&self, heap: &mut Heap<T>, depth: u8) -> Link
-        requires sets { AreSets self.now.entries self.now.nodes self.now.links }
+        requires sets { AreSets self.now.row.entries self.now.row.nodes self.now.row.links }
         requires graph { IsGraph heap.old }
         requires live { (l : ℕ) → 0 < count l self.now.stood → IsSome (row_at heap.old l) }
-        requires held { (l : ℕ) → count l self.now.links ≤ holds_at heap.old l + count l self.now.stood }
+        requires held { (l : ℕ) → count l self.now.row.links ≤ holds_at heap.old l + count l self.now.stood }
         requires few { hold_count heap.old ≤ half_holds + 512 }
         requires spare { 0 < heap.old.spare_nodes }
-        ensures row { IsRow (form_at heap.new) result depth self.now.entries self.now.nodes self.now.links }
-        ensures builds { (news : List ℕ) → ((l : ℕ) → count l self.now.stood + count l news ≡ count l self.now.links) →
+        ensures row { IsRow (form_at heap.new) result depth self.now.row.entries self.now.row.nodes self.now.row.links }
+        ensures builds { (news : List ℕ) → ((l : ℕ) → count l self.now.stood + count l news ≡ count l self.now.row.links) →
             Builds heap.old heap.new news (result ∷ []) 0 1 }
     {
         heap.hold_all(self.stood.as_slice());
-        let head = Head::Trie {
-            depth,
-            entries: self.entries,
-            nodes: self.nodes,
-        };
-        heap.node(head, self.links.as_slice())
+        self.row.make(heap, depth)
     }
 }
 

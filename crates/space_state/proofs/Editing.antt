@@ -46,7 +46,7 @@ use Rattle.space_state.specs.declared.roots.RootedHeap.{RootedHeap}
 use Rattle.space_state.specs.declared.room.TheConstants.{EDIT_NODES, ERASE_NODES, SLICE_NODES, WRITTEN_NODES}
 use Rattle.space_state.specs.declared.undo_end.TheConstants.{TURN_NODES}
 use Rattle.space_state.specs.Roots.{Keeps}
-use Rattle.space_state.specs.InPlace.{IsInPlace, new_key}
+use Rattle.space_state.specs.BatchEdits.{IsInPlace, new_key}
 use Rattle.space_state.specs.Turns.{IsDue, IsSame, RoomIsMade, RoomIsRefused, TurnsTo, IsCarriedOut, IsRefused}
 use Rattle.space_state.proofs.Keeping.{Rises, rises-answered, rises-then, rises-same, rises-more, keeps-extended, keeps-gained, keeps-same, answered-cell, keeps-swapped, first-held, unchanged-stands, turns-after}
 

@@ -57,9 +57,14 @@ module _ (s : RootedHeap) (W : Workspace) (K : Keeps s [] W) where
   pub rows-are : row_count (shown s).pool ≡ live_count s.heap
   rows-are = nothing-leaks (λ text. text) s.heap (root_list s.roots) (settings_by s.bits s.history) K.graph roots-held
 
+-- the pool that is seen stands for the workspace that the rows keep
+pub stood : (s : RootedHeap) {v : SpaceView} → shown s ≡ v → (W : Workspace) × Keeps s [] W → (W : Workspace) × StandsFor v.pool W
+stood s is kept = (kept.0, subst (λ (v : SpaceView). StandsFor v.pool kept.0) is (pool-is s kept.0 kept.1))
+
 -- what the rows answer of the workspace that they keep holds of one for which the pool that is seen stands
 pub asked : (s : RootedHeap) {v : SpaceView} {P : Workspace → Type 0} → shown s ≡ v → (W : Workspace) × Keeps s [] W → ((W : Workspace) → Keeps s [] W → P W) → (W : Workspace) × StandsFor v.pool W × P W
-asked s is kept told = (kept.0, subst (λ (v : SpaceView). StandsFor v.pool kept.0) is (pool-is s kept.0 kept.1), told kept.0 kept.1)
+unfolding stood
+asked s is kept told = (kept.0, (stood s is kept).1, told kept.0 kept.1)
 
 -- what was not hoarded by the heap was not by the space
 pub room-kept : (old new : RootedHeap) {cells nodes : ℕ} → KeepsToNeed old.heap new.heap cells nodes → KeepsRoom (shown old) (shown new) cells nodes

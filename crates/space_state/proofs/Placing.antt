@@ -18,12 +18,12 @@ use Rattle.plain_space.specs.Edited.{edited}
 use Rattle.plain_space.specs.Cost.{alike_buffers, edit_cost, cost}
 use Rattle.state_rows.specs.Reading.{StandsIfThere}
 use Rattle.state_rows.specs.InHeap.{IsTextIn, IsStateIn}
-use Rattle.state_rows.specs.InPlace.{MakesAtMost}
+use Rattle.state_rows.specs.EditedStates.{MakesAtMost}
 use Rattle.state_rows.proofs.Keys.{by_bytes, same-name}
 use Rattle.space_state.specs.declared.roots.RootedHeap.{RootedHeap}
 use Rattle.space_state.specs.declared.undo_end.TheConstants.{TURN_NODES}
 use Rattle.space_state.specs.Roots.{Keeps}
-use Rattle.space_state.specs.InPlace.{current_kept, new_key}
+use Rattle.space_state.specs.BatchEdits.{current_kept, new_key}
 use Rattle.space_state.specs.Turns.{TurnsTo, TurnsBeside, IsReadyInPlace, IsCarriedOut, RoomIsRefused}
 use Rattle.space_state.proofs.Keeping.{keeps-gained, keeps-placed, current-holds, left-over, held-beside, trades-beside, answered-cell, Rises, rises-answered, rises-then, rises-more, rises-trades, turns-of, turns-by}
 use Rattle.space_state.proofs.Editing.{does, cost-edit}

@@ -1,5 +1,5 @@
 pub mod Roots
-pub mod InPlace
+pub mod BatchEdits
 pub mod Turns
 pub mod Needed
 pub mod Stepping

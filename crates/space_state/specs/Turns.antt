@@ -11,13 +11,13 @@ use Rattle.plain_space.specs.Workspace.{Workspace, in_batch}
 use Rattle.plain_space.specs.Answer.{answer, done}
 use Rattle.plain_space.specs.Cost.{alike_buffers, alike_stars, cost}
 use Rattle.plain_space.specs.Memory.{MayLackMemory}
-use Rattle.state_rows.specs.InPlace.{MakesAtMost}
+use Rattle.state_rows.specs.EditedStates.{MakesAtMost}
 use Rattle.space_state.specs.declared.room.TheConstants.{EDIT_NODES}
 use Rattle.space_state.specs.declared.undo_end.TheConstants.{TURN_NODES}
 use Rattle.space_state.specs.declared.roots.RootedHeap.{RootedHeap}
 use Rattle.space_state.specs.Roots.{Keeps}
 use Rattle.space_state.specs.Needed.{merge_nodes}
-use Rattle.space_state.specs.InPlace.{IsInPlace, current_kept}
+use Rattle.space_state.specs.BatchEdits.{IsInPlace, current_kept}
 
 -- the refusal is due by this plain result: it is that, or memory was refused where that may be
 abbrev pub IsDueBy : {X : Type 0} → Result X Refusal → Type 0 → Refusal → Type 0

@@ -17,7 +17,7 @@ use Rattle.plain_space.specs.Cost.{cost}
 use Rattle.state_rows.specs.Standing.{StandsFor}
 use Rattle.space_state.specs.declared.roots.RootedHeap.{RootedHeap}
 use Rattle.space_state.specs.Roots.{root_list, Keeps}
-use Rattle.space_state.specs.InPlace.{IsInPlace}
+use Rattle.space_state.specs.BatchEdits.{IsInPlace}
 use Rattle.space_state.specs.Needed.{cells_needed, nodes_needed}
 use Rattle.space_state.specs.Turns.{IsDue, MadeRises}
 

@@ -13,15 +13,14 @@ ghost use Rattle.space_state.specs.Turns.{RoomIsRefused, IsReadyInPlace, EndsOnR
 
 use crate::roots::RootedHeap;
 use crate::undo_end::TURN_NODES;
-use champ_trie::ADD_NODES;
 use elem_core::{Line, Name, Text, text_of};
 use plain_space::Refusal;
-use rrb_core::{Flex, PUSH_NODES};
-use state_rows::{buffer_made, line_added, line_set};
+use rrb_core::Flex;
+use state_rows::{LINE_ADDED_NODES, buffer_made, line_added, line_set};
 
-/// The nodes of a line added in place, besides one for each name that is alike: 1 for the state row, as many for the way to the
-/// buffer as a key that comes takes, and those of the push. To make a buffer or set a line takes no more.
-const IN_PLACE_NODES: usize = 1 + ADD_NODES + PUSH_NODES;
+/// The nodes of an edit in place, besides one for each name that is alike: those of a line added. To make a buffer or set a line takes
+/// no more.
+const IN_PLACE_NODES: usize = LINE_ADDED_NODES;
 
 impl RootedHeap {
     // Makes ready for an edit in place: gives its text, makes room for a cell, for `IN_PLACE_NODES` nodes and one more for each of so

@@ -12,7 +12,7 @@ ghost use Rattle.plain_space.specs.Cost.{alike_buffers};
 ghost use Rattle.state_rows.specs.Reading.{StandsIfThere};
 ghost use Rattle.state_rows.specs.InHeap.{AreLinesIn};
 ghost use Rattle.space_state.specs.Roots.{Keeps};
-ghost use Rattle.space_state.specs.InPlace.{new_key};
+ghost use Rattle.space_state.specs.BatchEdits.{new_key};
 ghost use Rattle.space_state.specs.Turns.{TurnsTo, TurnsBeside};
 
 use crate::room::WRITTEN_NODES;

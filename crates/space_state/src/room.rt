@@ -5,7 +5,7 @@ ghost use Rattle.node_heap.specs.Heap.{HasSpares, row_limit};
 ghost use Rattle.node_heap.specs.Calls.{KeepsToNeed};
 ghost use Rattle.plain_space.specs.Workspace.{Workspace};
 ghost use Rattle.space_state.specs.Roots.{Keeps};
-ghost use Rattle.space_state.specs.InPlace.{new_key};
+ghost use Rattle.space_state.specs.BatchEdits.{new_key};
 ghost use Rattle.space_state.specs.Turns.{MakesRoom};
 
 use crate::roots::RootedHeap;

@@ -249,6 +249,7 @@ impl Space {
 
     /// The number of rows, all of which the pool has: none leaks.
     pub fn rows(&self) -> usize
+        ensures stands { (W : Workspace) × StandsFor self.now.pool W }
         ensures live { result ≡ self.now.live }
         ensures count { self.now.live ≡ row_count self.now.pool }
         ensures valid { IsValid self.now.pool }
@@ -258,7 +259,8 @@ impl Space {
 
     /// The number of rows ever made. It stays at 2^64 - 1 once it is there.
     pub fn made(&self) -> u64
-        ensures { result ≡ self.now.made }
+        ensures stands { (W : Workspace) × StandsFor self.now.pool W }
+        ensures number { result ≡ self.now.made }
     {
         self.rows.heap.made()
     }

@@ -7,7 +7,7 @@ ghost use Rattle.node_heap.specs.Calls.{KeepsToNeed};
 ghost use Rattle.plain_space.specs.Workspace.{State, Workspace, in_batch, last_of, undo_with, with_current};
 ghost use Rattle.state_rows.specs.InHeap.{IsStateIn};
 ghost use Rattle.space_state.specs.Roots.{Keeps};
-ghost use Rattle.space_state.specs.InPlace.{current_kept};
+ghost use Rattle.space_state.specs.BatchEdits.{current_kept};
 ghost use Rattle.space_state.specs.Turns.{TurnsTo, TurnsBeside};
 ghost use Rattle.space_state.specs.View.{room_of};
 

@@ -16,12 +16,11 @@ use crate::room::EDIT_NODES;
 use crate::roots::RootedHeap;
 use crate::undo_end::TURN_NODES;
 use champ_kinds::{Map, MapRef};
+use champ_trie::alike;
 use elem_core::{Name, NoMemory, text_of};
 use node_heap::Link;
 use plain_space::Refusal;
-use state_rows::{
-    EMPTIED_NODES, PUSHED_NODES, version, versions_alike, with_version, without_version,
-};
+use state_rows::{EMPTIED_NODES, PUSHED_NODES, with_version, without_version};
 
 impl RootedHeap {
     /// The versions by their names.
@@ -37,7 +36,7 @@ impl RootedHeap {
         ensures { (W : Workspace) → Keeps self.now [] W →
             StandsIfThere (IsStateIn self.now.heap self.now.bits) result (version_of W (name_bytes name.entry)) }
     {
-        version(&self.heap, self.versions(), name)
+        self.versions().get(&self.heap, &name)
     }
 
     // Makes room for another map of versions. Nothing but the heap's spares changes. Refused where memory runs out, which leaves
@@ -53,8 +52,8 @@ impl RootedHeap {
         ensures ample { (W : Workspace) → Keeps self.old [] W →
             HasSpares self.old.heap 2 (EDIT_NODES + alike_versions self.old.bits W (name_bytes name.entry)) → IsOk result }
     {
-        let alike = versions_alike(&self.heap, self.versions(), name);
-        self.heap.reserve(2, EDIT_NODES + alike)
+        let more = alike(&self.heap, self.roots.versions, &name, self.bits);
+        self.heap.reserve(2, EDIT_NODES + more)
     }
 
     // Puts this map, of which the caller's hold is spent, in place of the versions.

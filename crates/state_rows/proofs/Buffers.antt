@@ -9,13 +9,14 @@ use Rattle.elem_core.specs.Naming.{IsName}
 use Rattle.std.specs.Option.{is_some}
 use Rattle.std.specs.FinMap as finite
 use Rattle.elem_core.specs.Codes.{text_code}
-use Rattle.elem_core.specs.declared.codes.TheConstants.{CODE_BITS, DEEPEST}
+use Rattle.elem_core.specs.declared.codes.TheConstants.{CODE_BITS}
 use Rattle.node_heap.specs.Links.{count, HasLink, Reaches, here, below}
 use Rattle.node_heap.specs.Forms.{Row, Kind, kind_of, cell, node, state, links_of, head_of, form_of}
 use Rattle.node_heap.specs.Heap.{Heap, row_at, form_at, links_at, holds_at, owners_at, IsGraph, HasSpares}
 use Rattle.node_heap.specs.Calls.{Builds, KeepsBelow, KeepsHeld, Trades}
 use Rattle.node_heap.specs.InPlace.{child_at, Changes}
-use Rattle.node_heap.specs.Owner.{by_hold, by_place, relinked, with_root, links_beside, KeepsBeside, EditsBy}
+use Rattle.node_heap.specs.declared.owner.Owner.TheVariants.{Hold as by_hold, Child as by_place}
+use Rattle.node_heap.specs.Owner.{relinked, with_root, links_beside, KeepsBeside, EditsBy}
 use Rattle.node_heap.proofs.Counts.{test_same, one_at-flip}
 use Rattle.node_heap.proofs.BuildLemmas.{count-cons}
 use Rattle.node_heap.proofs.EditLaws.{roots-off}
@@ -31,6 +32,7 @@ use Rattle.edit_trie.specs.Laws.{EditsKeepValues}
 use Rattle.shell_terms.specs.Edit.{Bytes}
 use Rattle.plain_space.specs.Workspace.{State, with_lines}
 use Rattle.plain_space.specs.Cost.{alike_buffers}
+use Rattle.state_rows.specs.declared.edited_states.TheConstants.{BUFFER_MADE_NODES}
 use Rattle.state_rows.specs.InHeap.{AreLinesIn, IsStateIn}
 use Rattle.state_rows.proofs.Keys.{by_bytes}
 use Rattle.state_rows.proofs.Contents.{bindings-alike, named-there}
@@ -58,9 +60,9 @@ module _ {old mid : Heap Bytes} {l r : ℕ} (graph : IsGraph old) (held : 0 < ho
 
     -- what a call says where it has the spares that it may take
     pub never-refused : (key : Bytes) {Said : Type 0} → ((M : List (Binding Bytes)) → IsMapOf by_bytes text_code mid (record { root = child_at mid r 0; bits = bits }) M → HasSpares mid 1 (INSERT_NODES + alike_keys text_code bits key M) → Said)
-        → HasSpares old 1 (DEEPEST + 4 + alike_buffers bits s key) → Said
+        → HasSpares old 1 (BUFFER_MADE_NODES + alike_buffers bits s key) → Said
     never-refused key said spares =
-        map-ample buffers-mid key (DEEPEST + 3) {more = DEEPEST + 3} said
+        map-ample buffers-mid key INSERT_NODES {more = INSERT_NODES} said
         (omega (arith, spares.0, builds.makes.spare_cells, builds.few_cells), omega (arith, spares.1, builds.makes.spare_nodes, builds.few_nodes)) (omega arith)
 
   -- the change at the row is an edit by the state's hold

@@ -6,7 +6,7 @@ use Rattle.node_heap.specs.Links.{count, here}
 use Rattle.node_heap.specs.Forms.{Row}
 use Rattle.node_heap.specs.Heap.{Heap, row_at, holds_at, one_at, IsGraph}
 use Rattle.node_heap.specs.Calls.{Answered, Extends, HasHolds, KeepsBelow, KeepsHeld, KeepsOwners, MakesJust, Releases, Trades}
-use Rattle.node_heap.specs.Owner.{by_hold}
+use Rattle.node_heap.specs.declared.owner.Owner.TheVariants.{Hold as by_hold}
 use Rattle.node_heap.proofs.EditLaws.{owned-live}
 use Rattle.node_heap.proofs.GraphLemmas.{IsGraph-kinds, IsGraph-owned}
 use Rattle.node_heap.proofs.Counts.{test_same, one_at-flip}

@@ -14,7 +14,7 @@ use Rattle.champ_chain.specs.Entry.{Entry}
 use Rattle.champ_trie.specs.Trie.{IsCanon, code_by}
 use Rattle.champ_trie.proofs.BitLemmas.{has-none, rank-none}
 use Rattle.champ_trie.proofs.PlaceLemmas.{place-empty}
-use Rattle.champ_trie.proofs.ReachLemmas.{canon-empty}
+use Rattle.champ_trie.proofs.CallerLemmas.{canon-empty}
 use Rattle.champ_kinds.specs.Kinds.{IsKeyCell}
 use Rattle.shell_terms.specs.Edit.{Bytes}
 use Rattle.state_rows.specs.Reading.{StandsIfThere, IsVectorOver, IsNamed, AreNames}

@@ -13,7 +13,8 @@ use Rattle.node_heap.specs.Forms.{Row, Kind, cell, node, form_of, head_of, links
 use Rattle.node_heap.specs.Heap.{Heap, row_at, form_at, links_at, holds_at, owners_at, live_count, one_at, IsGraph}
 use Rattle.node_heap.specs.Calls.{Extends, Builds, KeepsHeld, KeepsOwners, KeepsToNeed, Makes, MakesWhatCame, Releases, Trades}
 use Rattle.node_heap.specs.InPlace.{child_at, other_at, OwnsDown, Changes, Writes, path_start, path_then}
-use Rattle.node_heap.specs.Owner.{by_hold, by_place, alone, relinked, with_root, links_beside, KeepsBeside, EditsBy}
+use Rattle.node_heap.specs.declared.owner.Owner.TheVariants.{Hold as by_hold, Child as by_place}
+use Rattle.node_heap.specs.Owner.{alone, relinked, with_root, links_beside, KeepsBeside, EditsBy}
 use Rattle.node_heap.proofs.AloneLemmas.{alone-same}
 use Rattle.node_heap.proofs.Counts.{test_same}
 use Rattle.node_heap.proofs.BuildLemmas.{count-cons, count-one}
@@ -35,7 +36,7 @@ use Rattle.plain_space.specs.Cost.{alike_buffers}
 use Rattle.elem_core.specs.declared.codes.TheConstants.{LEVELS}
 use Rattle.elem_core.specs.Codes.{text_code}
 use Rattle.state_rows.specs.InHeap.{IsTextIn, AreLinesIn, IsStateIn}
-use Rattle.state_rows.specs.InPlace.{CopiesOfPath, OwnsLines, StaysBeside, lines_path}
+use Rattle.state_rows.specs.EditedStates.{CopiesOfPath, OwnsLines, StaysBeside, lines_path}
 use Rattle.state_rows.proofs.Edited.{same-rows}
 use Rattle.state_rows.proofs.Room.{room-made, room-then}
 use Rattle.state_rows.proofs.Zips.{zip-at, zip-push, zip-set, zip-among}

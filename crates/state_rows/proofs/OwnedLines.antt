@@ -16,7 +16,8 @@ use Rattle.node_heap.specs.Forms.{Row, Form, cell, node, pair, state, form_of, l
 use Rattle.node_heap.specs.Heap.{Heap, row_at, form_at, links_at, holds_at, owners_at, places_in, IsGraph}
 use Rattle.node_heap.specs.Calls.{KeepsBelow, KeepsToNeed, MakesWhatCame}
 use Rattle.node_heap.specs.InPlace.{child_at, OwnsDown, Changes}
-use Rattle.node_heap.specs.Owner.{by_place, relinked, with_root, links_beside, KeepsBeside}
+use Rattle.node_heap.specs.declared.owner.Owner.TheVariants.{Child as by_place}
+use Rattle.node_heap.specs.Owner.{relinked, with_root, links_beside, KeepsBeside}
 use Rattle.node_heap.proofs.Counts.{test_same}
 use Rattle.node_heap.proofs.BuildLemmas.{count-cons}
 use Rattle.node_heap.proofs.Edited.{Changes-path, KeepsBelow-sibling}

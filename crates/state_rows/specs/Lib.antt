@@ -5,5 +5,5 @@ pub mod Stay
 pub mod Listing
 pub mod Laws
 pub mod Worked
-pub mod InPlace
+pub mod EditedStates
 pub mod Merging

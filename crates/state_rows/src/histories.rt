@@ -12,23 +12,26 @@ ghost use Rattle.plain_space.specs.Workspace.{State};
 ghost use Rattle.state_rows.specs.InHeap.{IsStateIn, IsHistoryIn};
 
 use crate::start::empty_history;
-use edit_vec::{pop_held, push_held};
+use edit_vec::{POP_NODES, pop_held, push_held};
 use elem_core::Text;
-use node_heap::{Heap, Link};
-use rrb_core::Flex;
+use node_heap::{Heap, Link, MOST_HEIGHT};
+use rrb_core::{Flex, PUSH_NODES};
 use rrb_join::{SEAM_NODES, drop_front};
 
 /// The nodes of `pushed`: a row for each height and a new root.
-pub const PUSHED_NODES: usize = 9;
+pub const PUSHED_NODES: usize = PUSH_NODES;
 
 /// The nodes of `popped`: a row for each height.
-pub const POPPED_NODES: usize = 8;
+pub const POPPED_NODES: usize = POP_NODES;
 
 /// The nodes of `emptied`: the row of a history without states.
 pub const EMPTIED_NODES: usize = 1;
 
 /// The nodes for which `shortened` needs room: those of a cut, which makes fewer.
 pub const SHORTENED_NODES: usize = SEAM_NODES;
+
+/// The nodes that `shortened` makes at most: two for each height, and one more.
+pub const CUT_NODES: usize = 2 * MOST_HEIGHT as usize + 1;
 
 /// The history with the state after its last. It spends the holds of both. There is room for one more state. It makes
 /// at most 9 nodes, and none in vain.
@@ -67,7 +70,7 @@ pub fn popped(heap: &mut Heap<Text>, history: Flex) -> (Flex, Link)
 }
 
 /// The history without its first `states` states. It spends the history's hold. It makes rows along the cut alone, at most twice the
-/// history's height and one more, so at most 15 nodes, and shares the others, so that it takes the time of one path beside that of what
+/// history's height and one more, so at most `CUT_NODES`, and shares the others, so that it takes the time of one path beside that of what
 /// goes.
 pub fn shortened(heap: &mut Heap<Text>, history: Flex, states: u32) -> Flex
     requires few { hold_count heap.old < half_holds }
@@ -75,7 +78,7 @@ pub fn shortened(heap: &mut Heap<Text>, history: Flex, states: u32) -> Flex
     requires history { (bits : ℕ) × (ss : List State) × IsHistoryIn heap.old bits history ss }
     requires spares { HasSpares heap.old 0 SHORTENED_NODES }
     ensures keeps { KeepsHeld (λ l. count l (history ∷ [])) heap.old heap.new }
-    ensures trades { Trades heap.old heap.new (history ∷ []) (result ∷ []) 0 15 }
+    ensures trades { Trades heap.old heap.new (history ∷ []) (result ∷ []) 0 CUT_NODES }
     ensures made { heap.new.made ≤ heap.old.made + (2 * height_at heap.old history + 1) }
     ensures spares { KeepsToNeed heap.old heap.new 0 0 }
     ensures history { (bits : ℕ) (ss : List State) → IsHistoryIn heap.old bits history ss → IsHistoryIn heap.new bits result (drop states ss) }

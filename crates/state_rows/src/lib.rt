@@ -6,9 +6,9 @@
 //! others. All ask for the spares that they take, so that they want no memory.
 #![tactic(auto)]
 
+mod edited_states;
 mod fill;
 mod histories;
-mod in_place;
 mod laws;
 mod list;
 mod look_up;
@@ -17,18 +17,20 @@ mod merge;
 mod row;
 mod start;
 
+pub use edited_states::{
+    BUFFER_MADE_NODES, LINE_ADDED_NODES, LINE_SET_NODES, LINES_PUT_NODES, buffer_made, line_added,
+    line_set, lines_put,
+};
 pub use fill::filled;
 pub use histories::{
-    EMPTIED_NODES, POPPED_NODES, PUSHED_NODES, SHORTENED_NODES, emptied, popped, pushed, shortened,
+    CUT_NODES, EMPTIED_NODES, POPPED_NODES, PUSHED_NODES, SHORTENED_NODES, emptied, popped, pushed,
+    shortened,
 };
-pub use in_place::{buffer_made, line_added, line_set, lines_put};
 pub use laws::{
     one_workspace, pools_stand, roots_stand, states_stay, valid_pools_stand, worked_spaces,
 };
 pub use list::{marks, names, stars, totals};
-pub use look_up::{
-    FoundBuffer, buffer, find_buffer, is_starred, stars_alike, version, versions_alike,
-};
+pub use look_up::{FoundBuffer, buffer, find_buffer, is_starred, stars_alike};
 pub use make::{with_star, with_version, without_lines, without_star, without_version};
 pub use merge::{Merging, Stars, merge_need, merged};
 pub use start::{empty_history, empty_state, empty_versions};

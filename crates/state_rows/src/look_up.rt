@@ -1,16 +1,15 @@
-//! What is asked of states, versions and histories. None of it takes memory.
+//! What is asked of states. None of it takes memory.
 ghost use Rattle.std.specs.Prelude.{◌≡◌, ◌-◌, ◌<◌, ◌≤◌};
 ghost use Rattle.node_heap.specs.Heap.{row_limit};
-ghost use Rattle.std.specs.FinMap as map;
 ghost use Rattle.std.specs.Ordering.{nat_cmp};
 ghost use Rattle.std.specs.Cmp.Lexicographic.{slice_cmp};
 ghost use Rattle.elem_core.specs.declared.codes.TheConstants.{CODE_BITS};
 ghost use Rattle.elem_core.specs.Shown.{name_bytes};
 ghost use Rattle.champ_chain.specs.Entry.{link_with};
-ghost use Rattle.plain_space.specs.Workspace.{Named, State, lines_of, is_starred as has_star};
-ghost use Rattle.plain_space.specs.Cost.{alike as alike_names, alike_buffers, alike_stars};
+ghost use Rattle.plain_space.specs.Workspace.{State, lines_of, is_starred as has_star};
+ghost use Rattle.plain_space.specs.Cost.{alike_buffers, alike_stars};
 ghost use Rattle.state_rows.specs.Reading.{StandsIfThere};
-ghost use Rattle.state_rows.specs.InHeap.{AreLinesIn, IsStateIn, AreVersionsIn};
+ghost use Rattle.state_rows.specs.InHeap.{AreLinesIn, IsStateIn};
 
 use champ_kinds::{MapRef, SetRef};
 use champ_trie::{alike, look_up};
@@ -80,16 +79,6 @@ pub fn is_starred(heap: &Heap<Text>, bits: u32, state: Link, name: Name<'_>) -> 
     stars_of(heap, bits, state).has(heap, &name)
 }
 
-/// The state of the version of this name, None exactly where there is no such version.
-pub fn version(heap: &Heap<Text>, versions: MapRef, name: Name<'_>) -> Option<Link>
-    requires bits { versions.bits ≤ CODE_BITS }
-    requires versions { (m : Named State) × AreVersionsIn heap.now versions.bits versions.root m }
-    ensures { (m : Named State) → AreVersionsIn heap.now versions.bits versions.root m →
-        StandsIfThere (IsStateIn heap.now versions.bits) result (map.get m (name_bytes name.entry)) }
-{
-    versions.get(heap, &name)
-}
-
 /// How many of the starred names have the masked code of this one, itself included where it is among them.
 pub fn stars_alike(heap: &Heap<Text>, bits: u32, state: Link, name: Name<'_>) -> usize
     requires bits { bits ≤ CODE_BITS }
@@ -98,16 +87,6 @@ pub fn stars_alike(heap: &Heap<Text>, bits: u32, state: Link, name: Name<'_>) ->
     ensures few { result < row_limit }
 {
     alike(heap, stars_of(heap, bits, state).root(), &name, bits)
-}
-
-/// The same among the names of the versions.
-pub fn versions_alike(heap: &Heap<Text>, versions: MapRef, name: Name<'_>) -> usize
-    requires bits { versions.bits ≤ CODE_BITS }
-    requires versions { (m : Named State) × AreVersionsIn heap.now versions.bits versions.root m }
-    ensures number { (m : Named State) → AreVersionsIn heap.now versions.bits versions.root m → result ≡ alike_names versions.bits (map.keys m) (name_bytes name.entry) }
-    ensures few { result < row_limit }
-{
-    alike(heap, versions.root(), &name, versions.bits())
 }
 
 // The map of the state's buffers.

@@ -1,11 +1,12 @@
 -- A vector that is edited beside one that is kept.
-use Rattle.std.proofs.Common.{◌≡◌, ℕ, suc, ◌+◌, ◌<◌, ◌≤◌, List, [], ◌∷◌, ◌++◌, length, length-append, Option, Some, None, IsSome, refl, ap, sym, ◌∙◌, arith}
+use Rattle.std.proofs.Common.{◌≡◌, ℕ, ◌+◌, ◌<◌, ◌≤◌, List, [], ◌∷◌, ◌++◌, length, length-append, Option, Some, IsSome, refl, ap, ◌∙◌, arith}
 use Rattle.std.specs.Prelude.{option_to_list}
 use Rattle.node_heap.specs.Links.{count}
 use Rattle.node_heap.specs.Forms.{cell}
 use Rattle.node_heap.specs.Heap.{Heap, row_at, holds_at, hold_count, one_at, IsGraph}
 use Rattle.node_heap.specs.Calls.{HasHolds, KeepsHeld, Unchanged, Extends, Adds, Releases, Answered}
-use Rattle.node_heap.specs.Owner.{by_hold, EditsBy}
+use Rattle.node_heap.specs.declared.owner.Owner.TheVariants.{Hold as by_hold}
+use Rattle.node_heap.specs.Owner.{EditsBy}
 use Rattle.node_heap.proofs.Counts.{one_at-flip, test_same}
 use Rattle.node_heap.proofs.BuildLemmas.{count-cons, count-append, count-one}
 use Rattle.node_heap.proofs.Frames.{Extends-trans}

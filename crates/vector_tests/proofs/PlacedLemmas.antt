@@ -8,7 +8,8 @@ use Rattle.node_heap.specs.Heap.{Heap, row_at, links_at, holds_at, owners_at, ho
 use Rattle.node_heap.specs.Calls.{AddsOwner, KeepsOwners, KeepsBelow, KeepsHeld, Unchanged, Extends, Adds, Releases}
 use Rattle.node_heap.specs.declared.row.Head.{Head}
 use Rattle.node_heap.specs.InPlace.{child_at, Changes}
-use Rattle.node_heap.specs.Owner.{by_place, relinked, EditsBy}
+use Rattle.node_heap.specs.declared.owner.Owner.TheVariants.{Child as by_place}
+use Rattle.node_heap.specs.Owner.{relinked, EditsBy}
 use Rattle.node_heap.proofs.Counts.{one_at-flip, test_same, test_other}
 use Rattle.node_heap.proofs.BuildLemmas.{count-one}
 use Rattle.node_heap.proofs.Frames.{Extends-trans}

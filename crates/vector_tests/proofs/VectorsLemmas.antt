@@ -1,5 +1,5 @@
 -- A list of vectors with one more.
-use Rattle.std.proofs.Common.{◌≡◌, ℕ, ◌+◌, ◌<◌, ◌≤◌, List, [], ◌∷◌, ◌++◌, length, Ok, Err, Option, None, Some, get_or, subst, sym, arith, length-append, inl, inr}
+use Rattle.std.proofs.Common.{◌≡◌, ℕ, ◌+◌, ◌<◌, List, [], ◌∷◌, ◌++◌, Ok, Err, Option, None, Some, subst, sym, arith, length-append, inl, inr}
 use Rattle.std.specs.Prelude.{IfOk, IfSome, IsOk, IsSome}
 use Rattle.std.specs.declared.result.Result.{Result}
 use Rattle.std.specs.List.{All, slice_get}

@@ -6,7 +6,7 @@ ghost use Rattle.rrb_core.specs.Vector.{IsGoodVector};
 ghost use Rattle.vector_tests.specs.Stands.{KeepsVectors};
 
 use crate::samples::{counts_from, number_at, number_in};
-use crate::sums::vector_has_sums;
+use crate::sums::{roots_are_alike, vector_has_sums};
 use edit_vec::{FlexEdit, OpenFault, push_at, set_at};
 use elem_core::Num;
 use node_heap::{Head, Heap, Link};
@@ -179,6 +179,12 @@ impl Editing {
     /// Whether its root keeps sums.
     pub fn has_sums(&self) -> bool {
         vector_has_sums(&self.heap, self.vector.view().root())
+    }
+
+    /// Whether its root is another row than the kept one's, with the same sums and the same links.
+    pub fn has_copied_root(&self) -> bool {
+        let root = self.vector.view().root();
+        roots_are_alike(&self.heap, root, self.kept.view().root())
     }
 
     /// Its number at the index.

@@ -11,74 +11,135 @@ use node_heap::{Heap, Link};
 use rrb_core::{Flex, FlexRef};
 use rrb_join::{JoinFault, SliceFault, concat, drop_front, erase, insert, slice};
 use std::alloc::Global;
+use std::process::Abort;
 use std::test::Fail;
+
+// The turn of a vector of 2^31 elements, by doubling from one of this number.
+fn half_of_too_many(rt: &impl Abort, versions: &mut Versions, number: u32) -> usize {
+    let one = versions.push(rt, 0, number);
+    let half = versions.double(rt, one, 31);
+    assert!(rt; versions.len(rt, half) == 1 << 31);
+    half
+}
 
 // Two vectors, each from one element by doubling, are together longer by one than a vector may be.
 #[test]
 fn refuses_a_join_past_the_greatest_length(rt: HostRuntime) {
     let mut versions = Versions::start(&rt, rt.alloc());
-    let three = versions.push(&rt, 0, 3);
-    let four = versions.push(&rt, 0, 4);
-    let left = versions.double(&rt, three, 31);
-    let right = versions.double(&rt, four, 31);
-    assert_eq!(rt; versions.len(&rt, left), 1 << 31);
-    assert_eq!(rt; versions.len(&rt, right), 1 << 31);
+    let left = half_of_too_many(&rt, &mut versions, 3);
+    let right = half_of_too_many(&rt, &mut versions, 4);
     assert_eq!(rt;
         versions.join_fault(&rt, left, right),
         Some(JoinFault::Long)
     );
 }
 
+// Joins a vector of height 1 to itself, and answers the turn of the vector of both. One row is made.
+fn joined_at_the_root(rt: &impl Abort, versions: &mut Versions, turn: usize) -> usize {
+    assert!(rt; versions.height(rt, turn) == 1);
+    let made = versions.made();
+    let joined = versions.join(rt, turn, turn);
+    assert!(rt; versions.made().wrapping_sub(made) == 1);
+    joined
+}
+
 // Two vectors of 128 elements have the height 1, and the leaves at their seam are full and stand side by side: the root
 // alone is made. The roots of two vectors of 1,024 elements are full too, and the row over both alone is made.
+fn check_joins_along_the_seam_alone(rt: &impl Abort, versions: &mut Versions) {
+    let one = versions.push(rt, 0, 1);
+    let root = versions.double(rt, one, 7);
+    let joined = joined_at_the_root(rt, versions, root);
+    let full = versions.double(rt, joined, 2);
+    let higher = joined_at_the_root(rt, versions, full);
+    assert!(rt; versions.height(rt, higher) == 2);
+}
+
 #[test]
 fn joins_along_the_seam_alone(rt: HostRuntime) {
     let mut versions = Versions::start(&rt, rt.alloc());
-    let one = versions.push(&rt, 0, 1);
-    let root = versions.double(&rt, one, 7);
-    assert_eq!(rt; versions.height(&rt, root), 1);
-    let made = versions.made();
-    let joined = versions.join(&rt, root, root);
-    assert_eq!(rt; versions.made().wrapping_sub(made), 1);
-    let full = versions.double(&rt, joined, 2);
-    assert_eq!(rt; versions.height(&rt, full), 1);
-    let made = versions.made();
-    let higher = versions.join(&rt, full, full);
-    assert_eq!(rt; versions.made().wrapping_sub(made), 1);
-    assert_eq!(rt; versions.height(&rt, higher), 2);
+    check_joins_along_the_seam_alone(&rt, &mut versions);
+}
+
+// A vector of this cell twice, by an insert and a join.
+fn twice(heap: &mut Heap<Num>, cell: Link) -> Result<Link, Fail>
+    requires held { 0 < holds_at heap.old cell }
+    requires few { hold_count heap.old < quarter_holds }
+    ensures good { IfOk result (λ l. IsGoodVector heap.new l) }
+    ensures count { IfOk result (λ _. hold_count heap.new ≡ hold_count heap.old + 2) }
+{
+    let empty = Flex::empty(heap)?.into_root();
+    let one = insert(heap, FlexRef::at(empty), 0, cell)?.into_root();
+    let two = concat(heap, FlexRef::at(one), FlexRef::at(one))?.into_root();
+    Ok(two)
+}
+
+// Its last element alone, by two cuts.
+fn cut_to_one(heap: &mut Heap<Num>, two: Link) -> Result<Link, Fail>
+    requires good { IsGoodVector heap.old two }
+    requires few { hold_count heap.old < quarter_holds }
+    ensures good { IfOk result (λ l. IsGoodVector heap.new l) }
+    ensures count { IfOk result (λ _. hold_count heap.new ≡ hold_count heap.old + 2) }
+{
+    let rest = drop_front(heap, FlexRef::at(two), 1)?.into_root();
+    let tail = slice(heap, FlexRef::at(rest), 0, 1)?.into_root();
+    Ok(tail)
+}
+
+// How many elements the vector has without its first.
+fn left_without_first(heap: &mut Heap<Num>, root: Link) -> Result<u32, Fail>
+    requires good { IsGoodVector heap.old root }
+    requires few { hold_count heap.old < quarter_holds }
+{
+    let left = erase(heap, FlexRef::at(root), 0, 1)?.into_root();
+    Ok(FlexRef::at(left).len(heap))
+}
+
+// Whether the vector is of this element alone.
+fn is_one(heap: &Heap<Num>, root: Link, element: Link) -> bool
+    requires good { IsGoodVector heap.now root }
+{
+    let vector = FlexRef::at(root);
+    vector.get(heap, 0) == Some(element) && vector.get(heap, 1) == None
 }
 
 // Each call once, on a few elements.
+fn check_inserts_joins_and_cuts(rt: &impl Abort, heap: &mut Heap<Num>) -> Result<(), Fail>
+    requires few { hold_count heap.old ≡ 0 }
+{
+    heap.reserve(1, 0)?;
+    let cell = heap.cell(Num(1));
+    let two = twice(heap, cell)?;
+    let tail = cut_to_one(heap, two)?;
+    assert!(rt; is_one(heap, tail, cell));
+    assert!(rt; left_without_first(heap, tail)? == 0);
+    Ok(())
+}
+
 #[test]
 fn inserts_joins_and_cuts(rt: HostRuntime) -> Result<(), Fail> {
     let mut heap: Heap<Num> = Heap::new(rt.alloc());
-    heap.reserve(1, 0)?;
-    let cell = heap.cell(Num(1));
-    let empty = Flex::empty(&mut heap)?.into_root();
-    let one = insert(&mut heap, FlexRef::at(empty), 0, cell)?.into_root();
-    let two = concat(&mut heap, FlexRef::at(one), FlexRef::at(one))?.into_root();
-    let rest = drop_front(&mut heap, FlexRef::at(two), 1)?.into_root();
-    let tail = slice(&mut heap, FlexRef::at(rest), 0, 1)?.into_root();
-    assert!(rt; FlexRef::at(tail).get(&heap, 0) == Some(cell));
-    assert!(rt; FlexRef::at(tail).get(&heap, 1) == None);
-    let none = erase(&mut heap, FlexRef::at(tail), 0, 1)?;
-    assert_eq!(rt; none.view().len(&heap), 0);
-    let _root = none.into_root();
-    Ok(())
+    check_inserts_joins_and_cuts(&rt, &mut heap)
+}
+
+// Whether the part of a vector of four elements is refused.
+fn refuses_a_part(heap: &mut Heap<Num>, from: u32, to: u32) -> Result<bool, Fail>
+    requires few { hold_count heap.old ≡ 0 }
+{
+    let empty = Flex::empty(heap)?.into_root();
+    let four = pushed_all(heap, empty, 0, 4)?;
+    match slice(heap, FlexRef::at(four), from, to) {
+        Ok(part) => {
+            let _root = part.into_root();
+            Ok(false)
+        }
+        Err(fault) => Ok(fault == SliceFault::Range),
+    }
 }
 
 #[test]
 fn refuses_a_part_that_ends_before_it_begins(rt: HostRuntime) -> Result<(), Fail> {
     let mut heap: Heap<Num> = Heap::new(rt.alloc());
-    let empty = Flex::empty(&mut heap)?.into_root();
-    let four = pushed_all(&mut heap, empty, 0, 4)?;
-    match slice(&mut heap, FlexRef::at(four), 3, 2) {
-        Ok(part) => {
-            let _root = part.into_root();
-            assert!(rt; false);
-        }
-        Err(fault) => assert_eq!(rt; fault, SliceFault::Range),
-    }
+    assert!(rt; refuses_a_part(&mut heap, 3, 2)?);
     Ok(())
 }
 
@@ -213,21 +274,42 @@ fn numbers_to(alloc: Global, to: u32) -> Result<Vec<u32>, Fail>
     Ok(numbers)
 }
 
+// The vector of 2,000 such numbers.
+fn numbers_in_a_vector(heap: &mut Heap<Num>) -> Result<Link, Fail>
+    requires few { hold_count heap.old ≡ 0 }
+    ensures good { IfOk result (λ l. IsGoodVector heap.new l) }
+    ensures held { IfOk result (λ l. 0 < holds_at heap.new l) }
+    ensures count { IfOk result (λ _. hold_count heap.new ≡ 2001) }
+{
+    let empty = Flex::empty(heap)?.into_root();
+    let most = pushed_all(heap, empty, 0, 1_999)?;
+    // The contract of this call tells that its root is held.
+    let root = pushed(heap, most, 1_999)?;
+    Ok(root)
+}
+
 // Parts of a vector of 2,000 numbers, each joined to it on either side, with a number more at each end and without the middle
 // third. All hold what the same of a list holds, and leave no row behind once they are given up.
-#[test]
-fn cuts_and_joins_as_lists_do(rt: HostRuntime) -> Result<(), Fail> {
-    let mut heap: Heap<Num> = Heap::new(rt.alloc());
-    let numbers = numbers_to(rt.alloc(), 2_000)?;
-    let empty = Flex::empty(&mut heap)?.into_root();
-    let most = pushed_all(&mut heap, empty, 0, 1_999)?;
-    // The contract of this call tells that its root is held.
-    let root = pushed(&mut heap, most, 1_999)?;
+fn check_cuts_and_joins_as_lists_do(
+    rt: &impl Abort,
+    alloc: Global,
+    heap: &mut Heap<Num>,
+) -> Result<(), Fail>
+    requires few { hold_count heap.old ≡ 0 }
+{
+    let numbers = numbers_to(alloc, 2_000)?;
+    let root = numbers_in_a_vector(heap)?;
     let live = heap.live();
     for step in 0..28u32 {
         let from = 37 * step;
-        cuts_as_the_list(rt.alloc(), &mut heap, root, &numbers, from, 2_000 - from)?;
-        assert_eq!(rt; heap.live(), live);
+        cuts_as_the_list(alloc, heap, root, &numbers, from, 2_000 - from)?;
+        assert!(rt; heap.live() == live, "at {step}");
     }
     Ok(())
+}
+
+#[test]
+fn cuts_and_joins_as_lists_do(rt: HostRuntime) -> Result<(), Fail> {
+    let mut heap: Heap<Num> = Heap::new(rt.alloc());
+    check_cuts_and_joins_as_lists_do(&rt, rt.alloc(), &mut heap)
 }

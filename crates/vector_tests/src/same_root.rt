@@ -1,5 +1,5 @@
 //! Calls that leave all elements as they are give the vector itself: its root is held once more, and no row is made.
-ghost use Rattle.std.specs.Prelude.{◌<◌, IfOk};
+ghost use Rattle.std.specs.Prelude.{◌≡◌, ◌<◌, IfOk};
 ghost use Rattle.node_heap.specs.Heap.{hold_count, quarter_holds};
 ghost use Rattle.rrb_core.specs.Vector.{IsGoodVector};
 
@@ -41,29 +41,44 @@ fn vector_after(heap: &mut Heap<Num>, call: Call, all: Link, none: Link) -> Resu
     }
 }
 
+const CALLS: [Call; 7] = [
+    Call::TakeAll,
+    Call::TakeMore,
+    Call::DropNone,
+    Call::SliceAll,
+    Call::EraseNone,
+    Call::JoinNothingBehind,
+    Call::JoinNothingBefore,
+];
+
+// Whether the call gives the vector itself, held once more, and makes no row.
+fn gives_itself(heap: &mut Heap<Num>, call: Call, all: Link, none: Link) -> Result<bool, Fail>
+    requires good { IsGoodVector heap.old all }
+    requires empty { IsGoodVector heap.old none }
+    requires few { hold_count heap.old < quarter_holds }
+{
+    let live = heap.live();
+    let made = heap.made();
+    let owners = heap.owners(all);
+    let root = vector_after(heap, call, all, none)?.into_root();
+    let once_more = heap.owners(root).wrapping_sub(owners) == 1;
+    Ok(root == all && once_more && heap.live() == live && heap.made() == made)
+}
+
+// The same, of a vector that is made in this heap.
+fn gives_a_new_one_itself(heap: &mut Heap<Num>, call: Call) -> Result<bool, Fail>
+    requires few { hold_count heap.old ≡ 0 }
+{
+    let none = Flex::empty(heap)?.into_root();
+    let all = pushed_all(heap, none, 0, 100)?;
+    gives_itself(heap, call, all, none)
+}
+
 #[test]
 fn gives_the_vector_itself(rt: HostRuntime) -> Result<(), Fail> {
-    let calls = [
-        Call::TakeAll,
-        Call::TakeMore,
-        Call::DropNone,
-        Call::SliceAll,
-        Call::EraseNone,
-        Call::JoinNothingBehind,
-        Call::JoinNothingBefore,
-    ];
-    for call in calls {
+    for call in CALLS {
         let mut heap: Heap<Num> = Heap::new(rt.alloc());
-        let none = Flex::empty(&mut heap)?.into_root();
-        let all = pushed_all(&mut heap, none, 0, 100)?;
-        let live = heap.live();
-        let made = heap.made();
-        let owners = heap.owners(all);
-        let root = vector_after(&mut heap, call, all, none)?.into_root();
-        assert!(rt; root == all, "{call:?}");
-        assert_eq!(rt; heap.owners(root).wrapping_sub(owners), 1, "{call:?}");
-        assert_eq!(rt; heap.live(), live, "{call:?}");
-        assert_eq!(rt; heap.made(), made, "{call:?}");
+        assert!(rt; gives_a_new_one_itself(&mut heap, call)?, "{call:?}");
     }
     Ok(())
 }

@@ -6,6 +6,7 @@ ghost use Rattle.rrb_core.specs.Vector.{IsGoodVector};
 use crate::versions::Versions;
 use elem_core::Num;
 use node_heap::{Head, Heap, Link};
+use std::process::Abort;
 
 /// Whether this row keeps sums.
 pub fn has_sums(heap: &Heap<Num>, link: Link) -> bool
@@ -22,6 +23,24 @@ pub fn vector_has_sums(heap: &Heap<Num>, root: Link) -> bool
     requires { IsGoodVector heap.now root }
 {
     has_sums(heap, root)
+}
+
+/// Whether two rows are of one kind, with the same sums and the same links.
+pub fn are_alike(heap: &Heap<Num>, first: Link, second: Link) -> bool
+    requires first { IsSome (row_at heap.now first) }
+    requires second { IsSome (row_at heap.now second) }
+{
+    heap.kind(first) == heap.kind(second)
+        && heap.sums(first) == heap.sums(second)
+        && heap.links(first) == heap.links(second)
+}
+
+/// Whether the roots of two vectors are two such rows.
+pub fn roots_are_alike(heap: &Heap<Num>, first: Link, second: Link) -> bool
+    requires first { IsGoodVector heap.now first }
+    requires second { IsGoodVector heap.now second }
+{
+    first != second && are_alike(heap, first, second)
 }
 
 /// Whether this row, or one at most so many links below it, keeps sums.
@@ -53,12 +72,16 @@ fn pushes_keep_no_sums(rt: HostRuntime) {
 }
 
 // The leaf of the first 20 elements is neither full nor the last.
+fn check_a_join_keeps_sums(rt: &impl Abort, versions: &mut Versions) {
+    let few = versions.push_all(rt, 0, 0, 20);
+    let many = versions.push_all(rt, 0, 20, 1_044);
+    let all = versions.join(rt, few, many);
+    assert!(rt; versions.has_sums(rt, all));
+    assert!(rt; versions.counts_to(rt, all, 1_044));
+}
+
 #[test]
 fn a_join_keeps_sums(rt: HostRuntime) {
     let mut versions = Versions::start(&rt, rt.alloc());
-    let few = versions.push_all(&rt, 0, 0, 20);
-    let many = versions.push_all(&rt, 0, 20, 1_044);
-    let all = versions.join(&rt, few, many);
-    assert!(rt; versions.has_sums(&rt, all));
-    assert!(rt; versions.counts_to(&rt, all, 1_044));
+    check_a_join_keeps_sums(&rt, &mut versions);
 }

@@ -1,10 +1,9 @@
 use Rattle.std.proofs.Common.{◌≡◌, ◌∷◌, [], ap, subst, refl, arith, length, inl, inr}
 use Rattle.std.specs.Prelude.{option_map, count_ones}
-use Rattle.node_heap.specs.Links.{count}
+use Rattle.node_heap.specs.Links.{count, changed_links}
 use Rattle.node_heap.specs.Forms.{form_of, trie}
 use Rattle.node_heap.specs.Heap.{row_at, links_at}
 use Rattle.node_heap.specs.Calls.{Builds}
-use Rattle.node_heap.specs.Pairs.{changed_links}
 use Rattle.node_heap.proofs.CallerLemmas.{Builds-more}
 use Rattle.champ_trie.specs.Bits.{rank}
 use Rattle.champ_trie.specs.Edit.{ChangesAt}

@@ -1,10 +1,9 @@
 use Rattle.std.proofs.Common.{◌∷◌, [], ap, subst, arith}
 use Rattle.std.specs.Prelude.{option_map}
-use Rattle.node_heap.specs.Links.{count}
+use Rattle.node_heap.specs.Links.{count, changed_links}
 use Rattle.node_heap.specs.Forms.{form_of, trie}
 use Rattle.node_heap.specs.Heap.{row_at, links_at}
 use Rattle.node_heap.specs.Calls.{Builds}
-use Rattle.node_heap.specs.Pairs.{changed_links}
 use Rattle.champ_trie.proofs.TurnLemmas.{form-node}
 use Rattle.champ_trie.proofs.turn.edited.Goals as goal
 

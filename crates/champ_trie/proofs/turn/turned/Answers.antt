@@ -1,7 +1,7 @@
 use Rattle.std.proofs.Common.{◌≡◌, ap, sym, ◌∙◌}
 use Rattle.node_heap.specs.Forms.{links_of}
 use Rattle.node_heap.specs.Heap.{form_at, links_at}
-use Rattle.node_heap.specs.Pairs.{without}
+use Rattle.node_heap.specs.Links.{without}
 use Rattle.champ_chain.proofs.FrameLemmas.{links-form}
 use Rattle.champ_trie.specs.Trie.{AreSets}
 use Rattle.champ_trie.proofs.HoldLemmas.{row-same, read-sets, place-same}

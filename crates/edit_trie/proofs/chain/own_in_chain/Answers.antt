@@ -6,9 +6,9 @@ use Rattle.node_heap.specs.InPlace.{child_at}
 use Rattle.champ_chain.specs.Chain.{AreChainRows, IsChain}
 use Rattle.champ_chain.specs.Entry.{Entry}
 use Rattle.champ_chain.specs.KeySpot.{IsKeySpot}
+use Rattle.node_heap.proofs.CallerLemmas.{owns-child}
 use Rattle.edit_trie.specs.Chains.{OwnsRows}
 use Rattle.edit_trie.specs.Walk.{HasPair}
-use Rattle.edit_trie.proofs.ChildLemmas.{owns-child}
 use Rattle.edit_trie.proofs.ChainLemmas.{read-child}
 use Rattle.edit_trie.proofs.InChainLemmas.{MeetsPair, take-found, pair-inside, pair-child, pair-now, owns-in-chain}
 use Rattle.edit_trie.proofs.chain.own_in_chain.Given.{Over}

@@ -2,9 +2,9 @@ use Rattle.std.proofs.Common.{arith, ◌≡◌, take, sym, subst}
 use Rattle.std.proofs.lemmas.List.{length-take-le}
 use Rattle.node_heap.specs.Heap.{row_at}
 use Rattle.node_heap.specs.InPlace.{child_at}
+use Rattle.node_heap.proofs.CallerLemmas.{OwnsChild, owns-child}
 use Rattle.edit_trie.specs.Chains.{OwnsRows}
 use Rattle.edit_trie.proofs.RowLemmas.{node-form}
-use Rattle.edit_trie.proofs.ChildLemmas.{OwnsChild, owns-child}
 use Rattle.edit_trie.proofs.ChainLemmas.{row-there, owns-none, owns-more}
 use Rattle.edit_trie.proofs.chain.own_rows.Goals as goal
 

@@ -11,10 +11,10 @@ use Rattle.champ_trie.specs.Trie.{part, code_by}
 use Rattle.champ_trie.specs.Reach.{alike_in}
 use Rattle.champ_trie.specs.declared.place.Place.TheVariants.{Entry as At, Empty}
 use Rattle.champ_trie.proofs.CallerLemmas.{part-alike, part-distinct, row-at}
+use Rattle.node_heap.proofs.CallerLemmas.{owns-child}
 use Rattle.edit_trie.specs.Spot.{IsSpot, PutsAt}
 use Rattle.edit_trie.specs.declared.row.Spot.TheVariants.{Entry as EntryAt, Node as NodeAt, Empty as NoneAt}
 use Rattle.edit_trie.proofs.RowLemmas.{row-keyless, node-form, node-inside}
-use Rattle.edit_trie.proofs.ChildLemmas.{owns-child}
 use Rattle.edit_trie.proofs.LoneLemmas.{others-size}
 use Rattle.edit_trie.proofs.StepLemmas.{AtRow, at-row, digit-small, part-link, not-none, MeetsChain, OwnsNext, meets-chain, goes-deeper, owns-next, can-below}
 use Rattle.edit_trie.proofs.EditLemmas.{lone-apart, cut-below-node, cut-only, cuts-entry, cuts-lift, cuts-chain, cuts-node}

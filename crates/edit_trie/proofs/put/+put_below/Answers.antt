@@ -10,10 +10,10 @@ use Rattle.champ_trie.specs.Trie.{part, code_by, place_of}
 use Rattle.champ_trie.specs.Reach.{alike_in}
 use Rattle.champ_trie.specs.declared.place.Place.TheVariants.{Entry as At}
 use Rattle.champ_trie.proofs.CallerLemmas.{part-alike, row-at}
+use Rattle.node_heap.proofs.CallerLemmas.{owns-child}
 use Rattle.edit_trie.specs.Spot.{IsSpot, PutsAt}
 use Rattle.edit_trie.specs.declared.row.Spot.TheVariants.{Node as NodeAt, Empty as NoneAt}
 use Rattle.edit_trie.proofs.RowLemmas.{row-keyless, node-form, node-inside}
-use Rattle.edit_trie.proofs.ChildLemmas.{owns-child}
 use Rattle.edit_trie.proofs.StepLemmas.{AtRow, at-row, at-none, part-link, digit-small, MeetsChain, OwnsNext, meets-chain, goes-deeper, owns-next, can-below}
 use Rattle.edit_trie.proofs.EditLemmas.{puts-none, puts-chain, puts-node, keyed-below, held-below, apart-below}
 use Rattle.edit_trie.proofs.put.+put_below.Given.{Over}

@@ -6,7 +6,7 @@ use Rattle.elem_core.proofs.CodeLemmas.{masked-small}
 use Rattle.champ_chain.proofs.CallerLemmas.{key-some}
 use Rattle.champ_trie.specs.Trie.{code_by}
 use Rattle.champ_trie.specs.Reach.{agreeing}
-use Rattle.champ_trie.proofs.ReachLemmas.{link-there, link-empty, link-one, alike-none, alike-one, alike-all}
+use Rattle.champ_trie.proofs.CallerLemmas.{link-there, link-empty, link-one, alike-none, alike-one, alike-all}
 use Rattle.edit_trie.specs.declared.row.Spot.TheVariants.{Node as NodeAt, Empty as NoneAt}
 use Rattle.edit_trie.proofs.LeadLemmas.{row-is, few-links, spot-of, leads-on, entry-in, node-in, entry-on, chain-on}
 use Rattle.edit_trie.proofs.way.found_below.Given.{Over}

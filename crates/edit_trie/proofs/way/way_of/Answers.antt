@@ -4,21 +4,20 @@ use Rattle.elem_core.specs.declared.codes.TheConstants.{DEEPEST, LEVELS}
 use Rattle.node_heap.specs.Heap.{form_at}
 use Rattle.champ_trie.specs.Trie.{IsTrie, code_by}
 use Rattle.champ_trie.specs.Reach.{agreeing}
-use Rattle.champ_trie.proofs.CallerLemmas.{canon-live}
-use Rattle.champ_trie.proofs.ReachLemmas.{agreeing-none}
+use Rattle.champ_trie.proofs.CallerLemmas.{canon-live, agreeing-none}
 use Rattle.edit_trie.specs.Way.{IsSoleWay}
-use Rattle.edit_trie.proofs.LeadLemmas.{row-is, few-links, spot-of, node-in, trie-on, child-live, way-more, spot-one}
+use Rattle.edit_trie.proofs.LeadLemmas.{row-is, few-links, spot-of, node-in, trie-on, child-live, child-of, way-more, spot-one}
 use Rattle.edit_trie.proofs.DownLemmas.{way-none}
 use Rattle.edit_trie.proofs.way.way_of.Given.{Over}
 use Rattle.edit_trie.proofs.way.way_of.Goals.{After-trie-entries}
 use Rattle.edit_trie.proofs.way.way_of.Goals as goal
 
-pub is_alone-sole-requires : goal.is_alone-sole-requires
-is_alone-sole-requires g c = canon-live g.T.Ord.cmp (code_by g.T.Element.code_of c.requires.trie.0) c.args.heap.now c.args.root c.requires.trie.1 c.requires.trie.2
+pub has_one_owner-sole-requires : goal.has_one_owner-sole-requires
+has_one_owner-sole-requires g c = canon-live g.T.Ord.cmp (code_by g.T.Element.code_of c.requires.trie.0) c.args.heap.now c.args.root c.requires.trie.1 c.requires.trie.2
 
 pub loop-depth-init : goal.loop-depth-init
 loop-depth-init g c = (
-  λ sole. (c.is_alone-sole.ensures.0 sole, way-none c.args.heap.now c.args.root c.args.code 0 c.args.root refl refl),
+  λ sole. (c.has_one_owner-sole.ensures.0 sole, way-none c.args.heap.now c.args.root c.args.code 0 c.args.root refl refl),
   λ bits E canon. subst (IsTrie g.T.Ord.cmp (code_by g.T.Element.code_of bits) (form_at c.args.heap.now) LEVELS 0 c.args.root) (sym (agreeing-none g.T.Ord.cmp (code_by g.T.Element.code_of bits) c.args.code E)) canon.trie,
 )
 
@@ -51,10 +50,15 @@ offset_bounds-links-index g c =
     let small : c.in-Node.index * 8 < 2 ^ 64 = omega (arith, inside, few) in
     search rules
 
-pub is_alone_below-sole-requires : goal.is_alone_below-sole-requires
-is_alone_below-sole-requires g c =
-    let at = (goal.at.is_alone_below-sole-requires g c).After-trie-entries in
+pub is_alone_below-sole-requires-clause-live : goal.is_alone_below-sole-requires-clause-live
+is_alone_below-sole-requires-clause-live g c =
+    let at = (goal.at.is_alone_below-sole-requires-clause-live g c).After-trie-entries in
     child-live g.T.Ord.cmp (code g at) c.args.heap.now c.requires.trie.1 c.args.code c.loop-depth.depth c.loop-depth.row (deep g at) (trie g at) c.trie-entries.ensures c.digit.ensures.read c.in-Node.index c.index-links-index.result c.in-Node.ensures c.index-links-index.is c.rows_form_a_graph.ensures
+
+pub is_alone_below-sole-requires-clause-linked : goal.is_alone_below-sole-requires-clause-linked
+is_alone_below-sole-requires-clause-linked g c =
+    let at = (goal.at.is_alone_below-sole-requires-clause-linked g c).After-trie-entries in
+    child-of g.T.Ord.cmp (code g at) c.args.heap.now c.requires.trie.1 c.args.code c.loop-depth.depth c.loop-depth.row (deep g at) (trie g at) c.trie-entries.ensures c.digit.ensures.read c.in-Node.index c.index-links-index.result c.in-Node.ensures c.index-links-index.is
 
 pub loop-depth-preserved : goal.loop-depth-preserved
 loop-depth-preserved g c =

@@ -1,8 +1,15 @@
 use Rattle.std.proofs.Common.{ℕ, [], ◌∷◌, refl, arith}
-use Rattle.node_heap.proofs.BuildLemmas.{count-cons}
 use Rattle.node_heap.proofs.Counts.{test_same}
-use Rattle.edit_vec.proofs.TopLemmas.{needs-gained}
+use Rattle.node_heap.proofs.BuildLemmas.{count-cons}
+use Rattle.node_heap.proofs.CallerLemmas.{needs-gained}
+use Rattle.edit_vec.proofs.TopLemmas.{holds-root}
 use Rattle.edit_vec.proofs.push.push_held.Goals as goal
+
+pub push_root-root-requires-clause-owner : goal.push_root-root-requires-clause-owner
+push_root-root-requires-clause-owner g c = rw c.into_root.ensures (holds-root c.args.heap.now c.args.vector c.args.element c.requires.held)
+
+pub push_root-root-requires-clause-apart : goal.push_root-root-requires-clause-apart
+push_root-root-requires-clause-apart g c = tt
 
 pub push_root-root-requires-clause-root : goal.push_root-root-requires-clause-root
 push_root-root-requires-clause-root g c =

@@ -1,54 +1,33 @@
-use Rattle.std.proofs.Common.{ℕ, arith}
-use Rattle.node_heap.specs.Heap.{links_at}
-use Rattle.node_heap.specs.InPlace.{child_at}
-use Rattle.rrb_core.proofs.RowLists.{at-place}
-use Rattle.rrb_core.proofs.Stays.{well-live}
-use Rattle.rrb_core.specs.Vector.{height_at}
-use Rattle.edit_vec.proofs.TopLemmas.{needs-gained}
-use Rattle.edit_vec.specs.Steps.{CanPushRoot}
-use Rattle.edit_vec.proofs.push.push_there.Given.{Over}
-use Rattle.edit_vec.proofs.push.push_there.Goals.{After-links}
+use Rattle.std.proofs.Common.{arith, sym, subst}
+use Rattle.node_heap.specs.declared.owner.Owner.TheVariants.{Child as by_place}
+use Rattle.node_heap.proofs.CallerLemmas.{held-one, needs-gained}
+use Rattle.edit_vec.specs.Edit.{PushesElement}
 use Rattle.edit_vec.proofs.push.push_there.Goals as goal
 
--- the child by its link
-module _ (g : Over) (c : After-links g) where
-  can : CanPushRoot c.args.heap.now (child_at c.args.heap.now c.args.parent c.args.child) c.args.element
-  can = record {
-    graph = c.links.ensures.graph;
-    good = c.requires.good;
-    short = c.requires.short;
-    held = c.requires.held;
-    few = omega (arith, c.requires.few);
-    spare = c.requires.spare.1;
-  }
+pub push_root-requires-clause-owner : goal.push_root-requires-clause-owner
+push_root-requires-clause-owner g c = (c.requires.child, c.requires.sole)
 
-pub height_of-height-requires : goal.height_of-height-requires
-height_of-height-requires g c =
-    let h = c.args.heap.now in
-    let root : ℕ = child_at h c.args.parent c.args.child in
-    let at = at-place c.links.result.now (links_at h c.args.parent) c.args.child c.index-links-child.result c.index-links-child.is c.links.ensures.links c.requires.child in
-    rw at (well-live h (height_at h root) root c.requires.good.shape.well)
+pub push_root-requires-clause-root : goal.push_root-requires-clause-root
+push_root-requires-clause-root g c = record {
+  graph = c.rows_form_a_graph.ensures;
+  good = c.requires.good;
+  short = c.requires.short;
+  held = c.requires.held;
+  few = omega (arith, c.requires.few);
+  spare = c.requires.spare.1;
+}
 
-pub push_own_child-requires-clause-root : goal.push_own_child-requires-clause-root
-push_own_child-requires-clause-root g c = can g (goal.at.push_own_child-requires-clause-root g c).After-links
+pub push_root-requires-clause-held : goal.push_root-requires-clause-held
+push_root-requires-clause-held g c = λ k. held-one c.args.heap.now c.args.element c.requires.held k
 
-pub push_over_child-requires-clause-root : goal.push_over_child-requires-clause-root
-push_over_child-requires-clause-root g c = can g (goal.at.push_over_child-requires-clause-root g c).After-links
+pub push_root-requires-clause-apart : goal.push_root-requires-clause-apart
+push_root-requires-clause-apart g c = c.requires.apart
 
-pub returns-in-Some-clause-pushes : goal.returns-in-Some-clause-pushes
-returns-in-Some-clause-pushes g c = c.push_own_child.ensures.pushes
+pub returns-clause-pushes : goal.returns-clause-pushes
+returns-clause-pushes g c = subst (λ l. PushesElement (by_place c.args.parent c.args.child) c.args.heap.now c.push_root.new.heap l c.args.element) (sym c.push_root.ensures.up.1) c.push_root.ensures.pushes
 
-pub returns-in-Some-clause-changes : goal.returns-in-Some-clause-changes
-returns-in-Some-clause-changes g c = c.push_own_child.ensures.changes
+pub returns-clause-changes : goal.returns-clause-changes
+returns-clause-changes g c = c.push_root.ensures.up.0
 
-pub returns-in-Some-clause-spares : goal.returns-in-Some-clause-spares
-returns-in-Some-clause-spares g c = needs-gained c.push_own_child.ensures.gains
-
-pub returns-in-None-clause-pushes : goal.returns-in-None-clause-pushes
-returns-in-None-clause-pushes g c = c.push_over_child.ensures.pushes
-
-pub returns-in-None-clause-changes : goal.returns-in-None-clause-changes
-returns-in-None-clause-changes g c = c.push_over_child.ensures.changes
-
-pub returns-in-None-clause-spares : goal.returns-in-None-clause-spares
-returns-in-None-clause-spares g c = needs-gained c.push_over_child.ensures.gains
+pub returns-clause-spares : goal.returns-clause-spares
+returns-clause-spares g c = needs-gained c.push_root.ensures.gains

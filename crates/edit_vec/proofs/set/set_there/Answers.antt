@@ -1,57 +1,29 @@
-use Rattle.std.proofs.Common.{◌≡◌, ℕ, ◌+◌, ap, ◌∙◌, arith}
-use Rattle.node_heap.proofs.EditLaws.{Gains-trans}
-use Rattle.node_heap.specs.Heap.{links_at}
-use Rattle.node_heap.specs.InPlace.{child_at}
-use Rattle.rrb_core.proofs.RowLists.{at-place}
-use Rattle.rrb_core.proofs.Stays.{well-live}
-use Rattle.rrb_core.specs.Vector.{height_at}
-use Rattle.edit_vec.proofs.OwnLemmas.{OwnsChild, gains-child, owns-child, child-now}
-use Rattle.edit_vec.proofs.SetTop.{sets-element}
-use Rattle.edit_vec.proofs.TopLemmas.{makes-gained, row-owned, good-node, owned-place, write-place, changes-place, needs-gained}
-use Rattle.edit_vec.proofs.set.set_there.Given.{Over}
-use Rattle.edit_vec.proofs.set.set_there.Goals.{After-own_child-own}
+use Rattle.std.proofs.Common.{sym, subst}
+use Rattle.node_heap.specs.declared.owner.Owner.TheVariants.{Child as by_place}
+use Rattle.node_heap.proofs.CallerLemmas.{held-one, needs-gained}
+use Rattle.edit_vec.specs.Edit.{SetsElement}
 use Rattle.edit_vec.proofs.set.set_there.Goals as goal
 
-pub height_of-height-requires : goal.height_of-height-requires
-height_of-height-requires g c =
-    let h = c.args.heap.now in
-    let root : ℕ = child_at h c.args.parent c.args.child in
-    let at = at-place c.links.result.now (links_at h c.args.parent) c.args.child c.index-links-child.result c.index-links-child.is c.links.ensures.links c.requires.child in
-    rw at (well-live h (height_at h root) root c.requires.good.shape.well)
+pub set_root-did-requires-clause-owner : goal.set_root-did-requires-clause-owner
+set_root-did-requires-clause-owner g c = (c.requires.child, c.requires.sole)
 
-pub own_child-own-requires-clause-node : goal.own_child-own-requires-clause-node
-own_child-own-requires-clause-node g c = good-node c.requires.good
+pub set_root-did-requires-clause-good : goal.set_root-did-requires-clause-good
+set_root-did-requires-clause-good g c = c.requires.good
 
--- the child is its parent's own then
-module _ (g : Over) (c : After-own_child-own g) where
-  own : OwnsChild c.args.heap.now c.own_child-own.new.self c.args.parent c.args.child c.own_child-own.result
-  own =
-      let did = c.own_child-own.ensures in
-      owns-child c.links.ensures.graph c.requires.child did.same did.row did.sole did.fresh did.parent_head did.parent_links did.stays did.others did.owners did.changes did.makes
+pub set_root-did-requires-clause-held : goal.set_root-did-requires-clause-held
+set_root-did-requires-clause-held g c = λ k. held-one c.args.heap.now c.args.element c.requires.held k
 
-  height : c.height_of-height.result ≡ height_at c.args.heap.now (child_at c.args.heap.now c.args.parent c.args.child)
-  height = c.height_of-height.ensures ∙ ap (height_at c.args.heap.now) (at-place c.links.result.now (links_at c.args.heap.now c.args.parent) c.args.child c.index-links-child.result c.index-links-child.is c.links.ensures.links c.requires.child)
+pub set_root-did-requires-clause-apart : goal.set_root-did-requires-clause-apart
+set_root-did-requires-clause-apart g c = c.requires.apart
 
-pub set_in-requires-clause-row : goal.set_in-requires-clause-row
-set_in-requires-clause-row g c =
-    let before = (goal.at.set_in-requires-clause-row g c).After-own_child-own in
-    write-place (own g before) c.requires.held c.requires.apart c.requires.good (height g before) (omega (arith, c.requires.spare.1))
-
-pub set_in-requires-clause-inside : goal.set_in-requires-clause-inside
-set_in-requires-clause-inside g c =
-    let before = (goal.at.set_in-requires-clause-inside g c).After-own_child-own in
-    rw (row-owned (owned-place (own g before)) c.requires.good (height g before)).items c.requires.inside
+pub set_root-did-requires-clause-inside : goal.set_root-did-requires-clause-inside
+set_root-did-requires-clause-inside g c = c.requires.inside
 
 pub returns-clause-sets : goal.returns-clause-sets
-returns-clause-sets g c =
-    let before = (goal.at.returns-clause-sets g c).After-own_child-own in
-    let set = c.set_in.ensures in
-    rw (child-now (own g before) c.requires.held c.requires.apart set.changes) (sets-element (owned-place (own g before)) c.requires.good (height g before) c.requires.inside set (makes-gained (Gains-trans (gains-child (own g before)) set.gains)))
+returns-clause-sets g c = subst (λ l. SetsElement (by_place c.args.parent c.args.child) c.args.heap.now c.set_root-did.new.heap l c.args.index c.args.element c.set_root-did.result.1) (sym c.set_root-did.ensures.up.1) c.set_root-did.ensures.sets
 
 pub returns-clause-changes : goal.returns-clause-changes
-returns-clause-changes g c =
-    let before = (goal.at.returns-clause-changes g c).After-own_child-own in
-    changes-place (own g before) (height_at c.args.heap.now (child_at c.args.heap.now c.args.parent c.args.child) + 1) (omega (arith, height g before)) c.set_in.ensures.changes
+returns-clause-changes g c = c.set_root-did.ensures.up.0
 
 pub returns-clause-spares : goal.returns-clause-spares
-returns-clause-spares g c = needs-gained (Gains-trans (gains-child (own g (goal.at.returns-clause-spares g c).After-own_child-own)) c.set_in.ensures.gains)
+returns-clause-spares g c = needs-gained c.set_root-did.ensures.gains

@@ -1,7 +1,7 @@
 use Rattle.std.proofs.Common.{◌≡◌, ◌+◌, ℕ, ap, sym, subst, ◌∙◌, arith}
 use Rattle.std.specs.Prelude.{remove}
-use Rattle.node_heap.specs.Links.{count}
-use Rattle.node_heap.specs.Pairs.{without, common, common_at}
+use Rattle.node_heap.specs.Links.{count, without}
+use Rattle.node_heap.specs.Pairs.{common, common_at}
 use Rattle.node_heap.specs.declared.pairs.Pair.{Pair}
 use Rattle.node_heap.proofs.PairLemmas.{common-rows, sharing-rows, common-removed, sharing-removed}
 use Rattle.node_heap.proofs.pairs.part.Goals as goal
@@ -20,7 +20,7 @@ returns-clause-alike g c =
     let pairs = c.args.pairs.now.items in
     let pair = c.remove-pair.result in
     let rest = remove pairs c.args.index in
-    let links : c.as_slice.result.now ≡ common slots pair = c.as_slice.ensures.value ∙ c.take_out.ensures ∙ ap (without _) c.copy_links.ensures ∙ ap (λ (q : Pair). common slots q) c.pair.view_is in
+    let links : c.as_slice.result.now ≡ common slots pair = c.as_slice.ensures.value ∙ c.take_out.ensures ∙ ap (without _) c.row_links-links.ensures ∙ ap (λ (q : Pair). common slots q) c.pair.view_is in
     let gone : (k : ℕ) → common_at slots rest k + count k (common slots pair) ≡ common_at slots pairs k = λ k. subst (λ (q : Pair). common_at slots rest k + count k (common slots q) ≡ common_at slots pairs k) (sym c.remove-pair.ensures.value) (common-removed slots pairs c.args.index pair c.requires.index k) in
     rw c.remove-pair.ensures.items
     (record {

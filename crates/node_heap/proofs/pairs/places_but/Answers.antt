@@ -1,8 +1,7 @@
 use mir.Val.{bool_byte}
 use Rattle.std.proofs.Common.{◌≡◌, ◌<◌, ◌∙◌, length, Bool, true, false, cond, eqb, refl, ap, arith}
-use Rattle.node_heap.specs.Links.{count}
+use Rattle.node_heap.specs.Links.{count, without}
 use Rattle.node_heap.specs.Heap.{one_at}
-use Rattle.node_heap.specs.Pairs.{without}
 use Rattle.node_heap.proofs.PairLemmas.{some-if, count-removed}
 use Rattle.node_heap.proofs.pairs.places_but.Goals as goal
 

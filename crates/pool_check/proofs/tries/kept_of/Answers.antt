@@ -2,7 +2,7 @@ use Rattle.std.proofs.Common.{◌≡◌, rules, ◌++◌, ◌∷◌, [], List, l
 use Rattle.champ_trie.specs.Trie.{code_by}
 use Rattle.pool_text.specs.Rules.{rules_named}
 use Rattle.pool_check.specs.Keeping.{forms_at, canonical_kept, AreKept}
-use Rattle.pool_check.specs.declared.trie_row.Kept.{Kept}
+use Rattle.pool_check.specs.declared.trie_row.KeptRow.{KeptRow}
 use Rattle.pool_check.proofs.RowsKept.{one-more, ranges-in, some-refused, all-kept, kept-in, kept-out}
 use Rattle.pool_check.proofs.KeptRows.{rows-many}
 use Rattle.pool_check.proofs.tries.kept_of.Goals as goal
@@ -30,7 +30,7 @@ loop-place-preserved c =
     let code = code_by (rules_named c.args.rules).code_of c.args.pool.now.bits in
     let deepest = (rules_named c.args.rules).deepest in
     let kept = c.loop-place.kept.items in
-    let is : canonical_kept (length rows) (forms_at rows) code deepest (length kept) ≡ Some c.in-Some.row = ap (λ (xs : List Kept). canonical_kept (length rows) (forms_at rows) code deepest (length xs)) (sym c.deref.ensures.value) ∙ sym c.kept_row.ensures ∙ c.in-Some.is in
+    let is : canonical_kept (length rows) (forms_at rows) code deepest (length kept) ≡ Some c.in-Some.row = ap (λ (xs : List KeptRow). canonical_kept (length rows) (forms_at rows) code deepest (length xs)) (sym c.deref.ensures.value) ∙ sym c.kept_row.ensures ∙ c.in-Some.is in
     let items : c.push.new.self.items ≡ kept ++ c.in-Some.row ∷ [] = c.in_ok-push-in-Some.ensures.items in (
       omega (arith, ap length items, length-append kept (c.in-Some.row ∷ []), c.loop-place.invariant.0),
       subst (λ xs. AreKept (length rows) (forms_at rows) code deepest xs) (sym items) (one-more (length rows) (forms_at rows) code deepest kept c.in-Some.row c.loop-place.invariant.1 (omega (arith, c.loop-place.invariant.0, c.loop-place-test.true)) is),
@@ -42,7 +42,7 @@ returns-in-None-clause-stand c =
     let code = code_by (rules_named c.args.rules).code_of c.args.pool.now.bits in
     let deepest = (rules_named c.args.rules).deepest in
     let kept = c.loop-place.kept.items in
-    let is : canonical_kept (length rows) (forms_at rows) code deepest (length kept) ≡ None = ap (λ (xs : List Kept). canonical_kept (length rows) (forms_at rows) code deepest (length xs)) (sym c.deref.ensures.value) ∙ sym c.kept_row.ensures ∙ c.in-None.is in
+    let is : canonical_kept (length rows) (forms_at rows) code deepest (length kept) ≡ None = ap (λ (xs : List KeptRow). canonical_kept (length rows) (forms_at rows) code deepest (length xs)) (sym c.deref.ensures.value) ∙ sym c.kept_row.ensures ∙ c.in-None.is in
     some-refused (rules_named c.args.rules) c.args.pool.now rows c.as_slice-rows.ensures (length kept) (omega (arith, c.loop-place.invariant.0, c.loop-place-test.true)) is
 
 pub returns-clause-stand : goal.returns-clause-stand

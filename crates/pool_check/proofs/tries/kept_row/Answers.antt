@@ -6,7 +6,7 @@ use Rattle.pool_text.specs.Rows.{Bytes, row_form}
 use Rattle.pool_text.specs.Rules.{rules_named}
 use Rattle.pool_text.specs.declared.row.Row.{Row}
 use Rattle.pool_check.specs.Keeping.{forms_at, canonical_kept, AreKept}
-use Rattle.pool_check.specs.declared.trie_row.Kept.TheVariants.{Entry as At}
+use Rattle.pool_check.specs.declared.trie_row.KeptRow.TheVariants.{Entry as At}
 use Rattle.pool_check.proofs.ChainRowLemmas.{canonical-is}
 use Rattle.pool_check.proofs.RowsKept.{form-at, links-low, first-low, trie-range, other-kept}
 use Rattle.pool_check.proofs.tries.kept_row.Goals as goal

@@ -1,12 +1,21 @@
-use Rattle.std.proofs.Common.{arith, refl, ◌∙◌}
+use Rattle.std.proofs.Common.{◌≡◌, ℕ, ◌<◌, ◌≤◌, refl, ◌∙◌, Bool, false, inl, inr}
+use Rattle.std.specs.Prelude.{IsTrue, ◌↔◌}
+use Rattle.std.proofs.lemmas.Bool.{cases_lt}
 use Rattle.node_heap.proofs.BuildLemmas.{Builds-Answered, Builds-MakesJust}
 use Rattle.node_heap.proofs.RoomLemmas.{Builds-KeepsToNeed}
 use Rattle.rrb_core.proofs.BuildLemmas.{answered-same, unchanged-good, same-height}
 use Rattle.rrb_core.proofs.EditLemmas.{root-after}
 use Rattle.rrb_core.proofs.replace.set.Goals as goal
 
-pub returns-then-index-len-clause-vectors : goal.returns-then-index-len-clause-vectors
-returns-then-index-len-clause-vectors g c = λ l good. (good, refl)
+not-both : {b : Bool} → IsTrue b → b ≡ false → ⊥
+not-both holds fails = absurd cc
+
+-- an index that isn't past the end
+within : {b : Bool} {index m : ℕ} → (IsTrue b ↔ (m ≤ index)) → b ≡ false → index < m
+within {b} {index} {m} told fails = elim (cases_lt index m) as (λ _. index < m) [ inl low ↦ low | inr past ↦ absurd (not-both (told.1 past) fails) ]
+
+pub returns-then-is_past-clause-vectors : goal.returns-then-is_past-clause-vectors
+returns-then-is_past-clause-vectors g c = λ l good. (good, refl)
 
 pub returns-in_err-reserve-clause-vectors : goal.returns-in_err-reserve-clause-vectors
 returns-in_err-reserve-clause-vectors g c = λ l. unchanged-good l c.in_err-reserve.ensures.rest
@@ -15,7 +24,7 @@ pub set_root-root-requires-clause-root : goal.set_root-root-requires-clause-root
 set_root-root-requires-clause-root g c = rw c.root.ensures (root-after c.in_ok-reserve.ensures.rest c.requires.good c.in_ok-reserve.ensures.spares c.requires.few)
 
 pub set_root-root-requires-clause-inside : goal.set_root-root-requires-clause-inside
-set_root-root-requires-clause-inside g c = rw (c.root.ensures, (unchanged-good c.args.vector c.in_ok-reserve.ensures.rest c.requires.good).1) (omega (arith, c.if-index-len.false, c.len.ensures.value))
+set_root-root-requires-clause-inside g c = rw (c.root.ensures, (unchanged-good c.args.vector c.in_ok-reserve.ensures.rest c.requires.good).1) (within c.is_past.ensures c.if-is_past.false)
 
 pub returns-clause-items : goal.returns-clause-items
 returns-clause-items g c = rw c.from_root.ensures (c.set_root-root.ensures.vector.1 ∙ rw (c.root.ensures, (unchanged-good c.args.vector c.in_ok-reserve.ensures.rest c.requires.good).1) refl)

@@ -2,10 +2,9 @@ use Rattle.std.proofs.Common.{◌≡◌, ◌<◌, ℕ, List, [], ◌∷◌, take
 use Rattle.std.proofs.lemmas.List.{append_assoc}
 use Rattle.node_heap.specs.Heap.{row_at, links_at}
 use Rattle.node_heap.specs.Forms.{node}
-use Rattle.node_heap.proofs.CallerLemmas.{node-long, Builds-then, Builds-node}
+use Rattle.node_heap.proofs.CallerLemmas.{node-long}
 use Rattle.rrb_core.specs.Edit.{links_with}
 use Rattle.rrb_core.proofs.Lists.{set-parts}
-use Rattle.rrb_core.proofs.BuildLemmas.{builds-held}
 use Rattle.rrb_core.proofs.rows.node_with.Goals as goal
 
 -- a link put in, as the links around it
@@ -28,14 +27,3 @@ returns-then-keep-skip-2-clause-row g c =
     let ks = links_at c.args.heap.now c.args.link in
     let within : c.args.keep < length ks = omega (arith, c.if-keep-skip-2.true, c.requires.skip) in
     c.with_replaced.ensures.adds.here ∙ ap (λ xs. Some (node c.args.head xs)) (set-parts ks c.args.keep c.args.middle within ∙ ap (links_with ks c.args.keep c.args.middle) c.if-keep-skip-2.true)
-
-pub node-requires-clause-held : goal.node-requires-clause-held
-node-requires-clause-held g c = builds-held c.args.middle c.requires.held c.write_links_with-count.ensures.builds
-
-pub returns-clause-row : goal.returns-clause-row
-returns-clause-row g c = c.node.ensures.adds.here ∙ ap (λ xs. Some (node c.args.head xs)) c.write_links_with-count.ensures.links
-
-pub returns-clause-builds : goal.returns-clause-builds
-returns-clause-builds g c =
-    let made = c.node.ensures in
-    Builds-then c.write_links_with-count.ensures.builds (Builds-node made.adds made.makes made.count made.graph made.extends)

@@ -1,5 +1,6 @@
 use Rattle.std.proofs.Common.{◌≡◌, ◌+◌, ◌*◌, ◌≤◌, drop, subst, sym, arith}
 use Rattle.rrb_core.specs.Vector.{elements, height_at, IsGoodVector}
+use Rattle.state_rows.specs.declared.histories.TheConstants.{CUT_NODES}
 use Rattle.state_rows.proofs.Edited.{emptied-keeps, emptied-history, cut-history, cut-trades}
 use Rattle.state_rows.proofs.Room.{room-spared, room-freed, room-then}
 use Rattle.state_rows.proofs.histories.shortened.Goals as goal
@@ -16,7 +17,7 @@ returns-clause-keeps c = emptied-keeps c.args.history c.in-Ok.ensures.answered c
 pub returns-clause-trades : goal.returns-clause-trades
 returns-clause-trades c =
     let done = c.in-Ok.ensures in
-    cut-trades c.args.history 15 done.answered done.made c.release.ensures.releases c.release.ensures.graph (omega (arith, done.good.shape.low))
+    cut-trades c.args.history CUT_NODES done.answered done.made c.release.ensures.releases c.release.ensures.graph (omega (arith, done.good.shape.low))
 
 pub returns-clause-made : goal.returns-clause-made
 returns-clause-made c =

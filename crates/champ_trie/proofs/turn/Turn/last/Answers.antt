@@ -1,8 +1,7 @@
 use Rattle.std.proofs.Common.{◌≡◌, ◌≤◌, ◌<◌, ◌∷◌, [], length, get_or, ap, subst, sym, ◌∙◌, arith}
 use Rattle.std.proofs.lemmas.List.{get_or_default}
-use Rattle.node_heap.specs.Links.{count}
+use Rattle.node_heap.specs.Links.{count, without, with_link, changed_links}
 use Rattle.node_heap.specs.Heap.{row_at, links_at}
-use Rattle.node_heap.specs.Pairs.{without, with_link, changed_links}
 use Rattle.node_heap.proofs.CallerLemmas.{Builds-refl, Builds-hold}
 use Rattle.champ_trie.proofs.HoldLemmas.{count-at}
 use Rattle.champ_trie.proofs.TurnLemmas.{if-known, node-live, lone-came}

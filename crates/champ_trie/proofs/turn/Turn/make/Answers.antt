@@ -1,8 +1,7 @@
 use Rattle.std.proofs.Common.{◌≤◌, ◌<◌, ℕ, List, refl, ap, arith, length}
 use Rattle.std.proofs.lemmas.List.Edits.{length-remove}
-use Rattle.node_heap.specs.Links.{count}
+use Rattle.node_heap.specs.Links.{count, came, without}
 use Rattle.node_heap.specs.Heap.{links_at, holds_at}
-use Rattle.node_heap.specs.Pairs.{came, without}
 use Rattle.node_heap.proofs.CallerLemmas.{count-one, test_same}
 use Rattle.champ_trie.proofs.TurnLemmas.{if-known}
 use Rattle.champ_trie.proofs.turn.Turn.make.Given.{Over}

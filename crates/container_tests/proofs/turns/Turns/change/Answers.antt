@@ -4,12 +4,12 @@ use Rattle.container_tests.proofs.TurnLemmas.{held-as, held-unchanged, held-buil
 use Rattle.container_tests.proofs.turns.Turns.change.Goals as goal
 use Rattle.container_tests.proofs.turns.Turns.change.Goals.{in-1, in-2, in_default}
 
-pub returns-then-way-eq0-clause-held : goal.returns-then-way-eq0-clause-held
-returns-then-way-eq0-clause-held c =
-    held-built c.with_removed-made.ensures.adds.builds c.push.ensures.items (held-unchanged c.in_ok-reserve.ensures.rest (held-as c.any-row.ensures.heap c.any-row.ensures.same c.requires.held))
+pub returns-then-way-eq0 : goal.returns-then-way-eq0
+returns-then-way-eq0 c =
+    record { held = held-built c.with_removed-made.ensures.adds.builds c.push.ensures.items (held-unchanged c.in_ok-reserve.ensures.rest (held-as c.any-row.ensures.heap c.any-row.ensures.same c.requires.held)) }
 
-pub returns-clause-held : goal.returns-clause-held
-returns-clause-held c =
+pub returns : goal.returns
+returns c =
     let builds : Builds c.hold.new.self c.match-way.self.heap (c.any-link.result ∷ []) (c.match-way.made ∷ []) 0 1 =
     elim c.match-way.branch as (λ _. Builds c.hold.new.self c.match-way.self.heap (c.any-link.result ∷ []) (c.match-way.made ∷ []) 0 1) [
       | in-1 w ↦ rw (w.self-is, w.made-is) w.with_inserted-made.ensures.adds.builds
@@ -21,4 +21,4 @@ returns-clause-held c =
     elim c.match-way.branch as (λ _. c.match-way.self.held ≡ c.any-link.new.self.held) [ in-1 w ↦ rw w.self-is refl | in-2 w ↦ rw w.self-is refl | in_default w ↦ rw w.self-is refl ]
     in
     let before = held-unchanged c.in_ok-reserve.ensures.rest (held-as c.any-row.ensures.heap c.any-row.ensures.same c.requires.held) in
-    held-with c.hold.ensures.holds c.hold.ensures.count builds c.push-2.ensures.items (held-as c.any-link.ensures.heap (same ∙ c.any-link.ensures.same) before)
+    record { held = held-with c.hold.ensures.holds c.hold.ensures.count builds c.push-2.ensures.items (held-as c.any-link.ensures.heap (same ∙ c.any-link.ensures.same) before) }

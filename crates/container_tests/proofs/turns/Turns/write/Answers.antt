@@ -11,7 +11,7 @@ head-requires-then-len-gt0 c =
 pub write_own-requires-clause-held : goal.write_own-requires-clause-held
 write_own-requires-clause-held c =
     let read = subst (λ (ks : List ℕ). c.index-deref-at.result ≡ get_or ks c.roll-at.result c.index-deref-at.result) c.deref.ensures.0 c.index-deref-at.is in
-    held-traded c.own_child-child.ensures.changes.trades
+    held-traded c.own_child-own.ensures.changes.trades
     (held-written c.roll-at.result c.own-row.ensures.builds (omega (arith, c.roll-at.ensures, c.len.ensures.value)) read c.deref_mut.ensures.value (held-unchanged c.in_ok-reserve.ensures.rest c.requires.held))
 
 pub write_own-requires-2-clause-held : goal.write_own-requires-2-clause-held

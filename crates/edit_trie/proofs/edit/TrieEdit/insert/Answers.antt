@@ -2,7 +2,7 @@ use Rattle.std.proofs.Common.{rules, ◌+◌, ◌<◌, ◌∷◌, [], refl, ap, 
 use Rattle.node_heap.specs.Links.{count}
 use Rattle.node_heap.specs.Heap.{holds_at}
 use Rattle.node_heap.specs.Calls.{HasHolds, KeepsToNeed}
-use Rattle.node_heap.specs.Owner.{by_hold}
+use Rattle.node_heap.specs.declared.owner.Owner.TheVariants.{Hold as by_hold}
 use Rattle.node_heap.proofs.CallerLemmas.{test_same, count-link as count-cons}
 use Rattle.champ_chain.proofs.CallerLemmas.{not-ok}
 use Rattle.champ_kinds.specs.Root.{Root}

@@ -1,16 +1,12 @@
 use Rattle.std.proofs.Common.{◌≡◌, ap, sym, subst, ◌∙◌, arith}
-use Rattle.elem_core.specs.declared.codes.TheConstants.{DEEPEST}
 use Rattle.node_heap.specs.Forms.{is_node}
-use Rattle.node_heap.specs.Heap.{row_at, form_at}
-use Rattle.node_heap.specs.Owner.{by_hold}
+use Rattle.node_heap.specs.Heap.{row_at}
+use Rattle.node_heap.specs.declared.owner.Owner.TheVariants.{Hold as by_hold}
 use Rattle.node_heap.proofs.CallerLemmas.{Extends-trans, IsOwned, owns, owned-hold, after-room}
-use Rattle.champ_trie.specs.Trie.{code_by}
-use Rattle.champ_trie.proofs.CallerLemmas.{row-at}
 use Rattle.champ_kinds.specs.Root.{Root}
 use Rattle.champ_kinds.specs.Kinds.{HasEntries, IsMapOf}
 use Rattle.edit_trie.specs.Edit.{by_bits}
-use Rattle.edit_trie.proofs.RowLemmas.{node-form}
-use Rattle.edit_trie.proofs.MapTop.{map-top, edits-top}
+use Rattle.edit_trie.proofs.MapTop.{map-node, map-top, edits-top}
 use Rattle.edit_trie.proofs.MapLemmas.{entries-owned}
 use Rattle.edit_trie.proofs.edit.TrieEdit.open.Given.{Over}
 use Rattle.edit_trie.proofs.edit.TrieEdit.open.Goals as goal
@@ -29,9 +25,7 @@ module _ (g : Over) (c : After-own-root g) where
 
 pub own-root-requires-clause-node : goal.own-root-requires-clause-node
 own-root-requires-clause-node g c =
-    let is = c.requires.contents.1 in
-    let at = row-at g.T.Ord.cmp (code_by g.T.Element.code_of c.args.map.bits) (form_at c.args.heap.now) DEEPEST 0 c.args.map.root is.entries is.rooted.trie.trie in
-    ap (λ l. is_node (row_at c.reserve.new.self l)) c.into_root.ensures ∙ ap is_node (c.in-Ok.ensures.rest.rows c.args.map.root) ∙ node-form (row_at c.args.heap.now c.args.map.root) _ at.2 at.3.row
+    ap (λ l. is_node (row_at c.reserve.new.self l)) c.into_root.ensures ∙ ap is_node (c.in-Ok.ensures.rest.rows c.args.map.root) ∙ map-node {bits = c.args.map.bits} {root = c.args.map.root} c.requires.contents.1
 
 pub returns-clause-contents : goal.returns-clause-contents
 returns-clause-contents g c = λ M is.

@@ -1,13 +1,13 @@
 use Rattle.std.proofs.Common.{rules, ◌+◌, ◌<◌, refl, ap, subst, ◌∙◌, arith, Ok}
 use Rattle.node_heap.specs.Heap.{holds_at}
 use Rattle.node_heap.specs.Calls.{KeepsToNeed}
-use Rattle.node_heap.specs.Owner.{by_hold}
+use Rattle.node_heap.specs.declared.owner.Owner.TheVariants.{Hold as by_hold}
 use Rattle.champ_chain.proofs.CallerLemmas.{not-ok, err-not-ok}
 use Rattle.champ_kinds.specs.Root.{Root}
 use Rattle.champ_kinds.specs.Binding.{alike_keys}
 use Rattle.champ_kinds.proofs.CallerLemmas.{map-seen, entries-seen}
 use Rattle.edit_trie.specs.Edit.{OwnsPair}
-use Rattle.edit_trie.specs.declared.own.TheConstants.{OWN_NODES}
+use Rattle.edit_trie.specs.declared.own_pair.TheConstants.{OWN_NODES}
 use Rattle.edit_trie.proofs.edit.TrieEdit.own_value.Goals as goal
 
 pub own_by-requires-clause-owner : goal.own_by-requires-clause-owner

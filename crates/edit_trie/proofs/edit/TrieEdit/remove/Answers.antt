@@ -6,24 +6,24 @@ use Rattle.node_heap.specs.Links.{Reaches}
 use Rattle.node_heap.specs.Heap.{Heap, row_at, form_at, links_at, holds_at, one_at}
 use Rattle.node_heap.specs.Calls.{Gains}
 use Rattle.node_heap.specs.InPlace.{child_at}
-use Rattle.node_heap.specs.Owner.{by_hold}
-use Rattle.node_heap.proofs.CallerLemmas.{count-one, Gains-trans, KeepsToNeed-more, IsOwned}
+use Rattle.node_heap.specs.declared.owner.Owner.TheVariants.{Hold as by_hold}
+use Rattle.node_heap.proofs.CallerLemmas.{count-one, Gains-trans, KeepsToNeed-more, IsOwned, is-owned}
 use Rattle.champ_chain.specs.Entry.{link_with, others, has_key}
 use Rattle.champ_chain.proofs.CallerLemmas.{one_at-same, same-filter, not-ok, err-not-ok}
 use Rattle.champ_trie.specs.Trie.{code_by}
 use Rattle.champ_trie.specs.Reach.{alike_in}
-use Rattle.champ_trie.proofs.CallerLemmas.{takes-any-order, has-one-set, row-at}
+use Rattle.champ_trie.proofs.CallerLemmas.{takes-any-order, has-one-set}
 use Rattle.champ_kinds.specs.Root.{Root}
 use Rattle.champ_kinds.specs.Binding.{Binding, alike_keys}
 use Rattle.champ_kinds.specs.Kinds.{IsMapOf}
 use Rattle.champ_kinds.proofs.CallerLemmas.{IsFound, found-pairs, alike-pairs, absent-map, absent-trie, links-read, pair-live, map-seen, entries-seen}
 use Rattle.edit_trie.specs.Edit.{by_bits, CutsKey}
 use Rattle.edit_trie.specs.Walk.{CanEditBelow, CutsIn}
-use Rattle.edit_trie.proofs.RowLemmas.{node-form}
 use Rattle.edit_trie.proofs.ChainLemmas.{read-child}
 use Rattle.edit_trie.proofs.ChainEdits.{hold-change}
-use Rattle.edit_trie.proofs.RootLemmas.{is-owned, released-need}
-use Rattle.edit_trie.proofs.MapTop.{can-top, value-off, value-live, cut-held, entries-new, cuts-key}
+use Rattle.edit_trie.proofs.RootLemmas.{released-need}
+use Rattle.edit_trie.proofs.TrieTop.{cut-held}
+use Rattle.edit_trie.proofs.MapTop.{map-node, can-top, value-off, value-live, entries-left, cuts-key}
 use Rattle.edit_trie.proofs.edit.TrieEdit.remove.Given.{Over}
 use Rattle.edit_trie.proofs.edit.TrieEdit.remove.Goals as goal
 use Rattle.edit_trie.proofs.edit.TrieEdit.remove.Goals.{After-masked-code}
@@ -51,7 +51,7 @@ module _ (g : Over) (c : After-masked-code g) where
   old = c.args.heap.now
 
   abbrev mid : Heap g.row.T.Denot
-  mid = c.own_root.new.heap
+  mid = c.reserved_root.new.heap
 
   abbrev r : ℕ
   r = c.in_ok-self-inside.field-0
@@ -93,7 +93,7 @@ module _ (g : Over) (c : After-masked-code g) where
       off = value-off g.met.T.Ord.total own is key held found value-is c.in_ok-self-inside.ensures.owns.graph did
 
       cut-more : one_at r cut < holds_at four cut
-      cut-more = cut-held g.met.T.Ord.total own is key held found value-is c.in_ok-self-inside.ensures.owns.graph did
+      cut-more = cut-held g.met.T.Ord.total own is.rooted key held did
 
 pub returns-in_default-clause-none : goal.returns-in_default-clause-none
 returns-in_default-clause-none g c = λ M here.
@@ -116,7 +116,7 @@ returns-in_err-self-inside-clause-ample g c = λ M here spares.
     let is = map-seen c.self.view_is here in
     let number = ap (λ (q : Root). alike_keys code q.bits key M) c.self.view_is in
     let alike = alike-pairs (form_at c.args.heap.now) code c.self.inside.bits key is.entries M is.pairs in
-    absurd (not-ok c.own_root.result _ c.in_err-self-inside.was (c.own_root.ensures.ample (omega arith, omega (arith, c.from.ensures, c.look_up-found.ensures.alike is.entries is.rooted.trie, alike, number, spares.1))))
+    absurd (not-ok c.reserved_root.result _ c.in_err-self-inside.was (c.reserved_root.ensures.ample (omega arith, omega (arith, c.from.ensures, c.look_up-found.ensures.alike is.entries is.rooted.trie, alike, number, spares.1))))
 
 pub links-requires : goal.links-requires
 links-requires g c =
@@ -131,17 +131,13 @@ bounds-links-1 g c =
     let f = found-row is (sym look ∙ c.in-Some.is) in
     subst (λ xs. 1 < length xs) (sym (links-read c.args.heap.now f.pair c.links.result.now c.links.ensures.links)) (omega arith)
 
-pub own_root-requires-clause-owner : goal.own_root-requires-clause-owner
-own_root-requires-clause-owner g c =
+pub reserved_root-requires-clause-owner : goal.reserved_root-requires-clause-owner
+reserved_root-requires-clause-owner g c =
     let some : 0 < holds_at c.args.heap.now c.self.inside.root = omega (arith, c.requires.held, ap (λ (q : Root). holds_at c.args.heap.now q.root) c.self.view_is) in
     some
 
-pub own_root-requires-clause-node : goal.own_root-requires-clause-node
-own_root-requires-clause-node g c =
-    let old = c.args.heap.now in
-    let is = map-seen c.self.view_is c.requires.contents.1 in
-    let at = row-at g.T.Ord.cmp (code_by g.T.Element.code_of c.self.inside.bits) (form_at old) DEEPEST 0 c.self.inside.root is.entries is.rooted.trie.trie in
-    node-form (row_at old c.self.inside.root) _ at.2 at.3.row
+pub reserved_root-requires-clause-node : goal.reserved_root-requires-clause-node
+reserved_root-requires-clause-node g c = map-node (map-seen c.self.view_is c.requires.contents.1)
 
 pub cut_below-cut-requires-clause-row : goal.cut_below-cut-requires-clause-row
 cut_below-cut-requires-clause-row g c =
@@ -152,7 +148,7 @@ cut_below-cut-requires-clause-row g c =
       can g way is,
       there g way is,
       at-root,
-      omega (arith, c.from.ensures, c.look_up-found.ensures.alike is.entries is.rooted.trie, ap (λ n. alike_in (code_by g.T.Element.code_of c.self.inside.bits) n is.entries) (code-is g way), c.in_ok-self-inside.ensures.owns.spares.1),
+      omega (arith, c.from.ensures, c.look_up-found.ensures.alike is.entries is.rooted.trie, ap (λ n. alike_in (code_by g.T.Element.code_of c.self.inside.bits) n is.entries) (code-is g way), c.in_ok-self-inside.ensures.spares.1),
     )
 
 pub cut_below-cut-requires-clause-few : goal.cut_below-cut-requires-clause-few
@@ -189,7 +185,7 @@ returns-clause-cuts g c = λ M here.
     let value = c.index-links-1.result in
     let made = c.cut_below-cut.ensures is.entries DEEPEST (can g way is) (there g way is) at-root in
     let kept = hold-change r value made.changes.trades.graph c.hold.ensures.graph c.hold.ensures.rows c.hold.ensures.holds c.hold.ensures.owners c.hold.ensures.makes c.hold.ensures.count c.hold.ensures.extends (off g way is made) in
-    let came = (c.in_ok-self-inside.ensures.owns.makes four made.gains).0 in
+    let came = (c.in_ok-self-inside.ensures.makes four made.gains).0 in
     let cuts = cuts-key g.met.T.Ord.total (own g way) is (key g way) (held g way) (found g way is) (value-is g way is) c.in_ok-self-inside.ensures.owns.graph (did g way is made)
     c.hold.ensures.rows c.hold.ensures.holds c.hold.ensures.owners kept c.release.ensures.releases c.release.ensures.graph c.release.ensures.below came c.hold.ensures.makes in
     subst (λ (q : Root). CutsKey cmp code (by_hold q.root) q.bits c.args.heap.now new r M (key g way) value) c.self.view_is cuts
@@ -209,7 +205,7 @@ returns-clause-entries g c = λ E here.
     let value = c.index-links-1.result in
     let made = c.cut_below-cut.ensures is.entries DEEPEST (can g way is) (there g way is) at-root in
     let kept = hold-change r value made.changes.trades.graph c.hold.ensures.graph c.hold.ensures.rows c.hold.ensures.holds c.hold.ensures.owners c.hold.ensures.makes c.hold.ensures.count c.hold.ensures.extends (off g way is made) in
-    let cuts = entries-new total (own g way) is (key g way) (held g way) (found g way is) (value-is g way is) c.in_ok-self-inside.ensures.owns.graph (did g way is made)
+    let cuts = entries-left total (own g way) is (key g way) (held g way) (found g way is) (value-is g way is) c.in_ok-self-inside.ensures.owns.graph (did g way is made)
     c.hold.ensures.rows c.hold.ensures.holds c.hold.ensures.owners kept c.release.ensures.releases c.release.ensures.graph c.release.ensures.below in
     let mine = entries-seen c.self.view_is here in
     let same = has-one-set cmp (code_by code bits) total (form_at old) c.self.inside.root is.entries E is.rooted.trie mine.trie in
@@ -231,7 +227,7 @@ returns-clause-spares g c = λ M here.
     let is = map-seen c.self.view_is here in
     let made = c.cut_below-cut.ensures is.entries DEEPEST (can g way is) (there g way is) at-root in
     let kept : Gains c.cut_below-cut.new.heap c.hold.new.self = record { stays = c.hold.ensures.extends.live; cells = 0; nodes = 0; makes = c.hold.ensures.makes } in
-    let need = (c.in_ok-self-inside.ensures.owns.makes c.hold.new.self (Gains-trans made.gains kept)).1 in
+    let need = (c.in_ok-self-inside.ensures.makes c.hold.new.self (Gains-trans made.gains kept)).1 in
     let all = released-need need c.release.ensures.releases in
     let alike = alike-pairs (form_at c.args.heap.now) code c.self.inside.bits (key g way) is.entries M is.pairs in
     let number = ap (λ (q : Root). alike_keys code q.bits (key g way) M) c.self.view_is in

@@ -1,4 +1,4 @@
-use Rattle.std.proofs.Common.{arith, subst}
+use Rattle.std.proofs.Common.{arith}
 use Rattle.std.proofs.lemmas.Result.{IfOk-at_ok}
 use Rattle.node_heap.proofs.EditLaws.{owned-live}
 use Rattle.map_tests.proofs.PlacedLemmas.{placed-own}

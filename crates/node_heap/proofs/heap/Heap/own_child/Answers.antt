@@ -12,36 +12,36 @@ use Rattle.node_heap.proofs.Owned.{OwnsChild, OwnsChild-seen, OwnsCopy-child, ow
 use Rattle.node_heap.proofs.PairLemmas.{is-one, not-one}
 use Rattle.node_heap.proofs.heap.Heap.own_child.Given.{Over}
 use Rattle.node_heap.proofs.heap.Heap.own_child.Goals as goal
-use Rattle.node_heap.proofs.heap.Heap.own_child.Goals.{After-is_alone_below}
+use Rattle.node_heap.proofs.heap.Heap.own_child.Goals.{After-child_has_one_owner}
 
 -- the child that was read stands at the index
-child_is : (g : Over) (c : After-is_alone_below g) → c.child.inside.place ≡ child_at c.args.self.now c.args.parent c.args.index
+child_is : (g : Over) (c : After-child_has_one_owner g) → c.child.inside.place ≡ child_at c.args.self.now c.args.parent c.args.index
 child_is g c = child-read c.self.invariant.counted c.self.view_is c.parent.view_is _ _ _ _ c.links.ensures c.child.view_is c.index-links-index.is c.requires.index
 
-pub returns-then-is_alone_below-clause-same : goal.returns-then-is_alone_below-clause-same
-returns-then-is_alone_below-clause-same g c =
-    let one = sym (owners-seen c.self.invariant.counted c.self.view_is refl) ∙ is-one c.is_alone_below.result _ c.is_alone_below.ensures c.if-is_alone_below.true in
-    rw (← child_is g (goal.at.returns-then-is_alone_below-clause-same g c).After-is_alone_below) (λ _. one, λ _. sym c.child.view_is)
+pub returns-then-child_has_one_owner-clause-same : goal.returns-then-child_has_one_owner-clause-same
+returns-then-child_has_one_owner-clause-same g c =
+    let one = sym (owners-seen c.self.invariant.counted c.self.view_is refl) ∙ is-one c.child_has_one_owner.result _ c.child_has_one_owner.ensures c.if-child_has_one_owner.true in
+    rw (← child_is g (goal.at.returns-then-child_has_one_owner-clause-same g c).After-child_has_one_owner) (λ _. one, λ _. sym c.child.view_is)
 
-pub returns-then-is_alone_below-clause-sole : goal.returns-then-is_alone_below-clause-sole
-returns-then-is_alone_below-clause-sole g c = sym (owners-seen c.self.invariant.counted c.self.view_is c.child.view_is) ∙ is-one c.is_alone_below.result _ c.is_alone_below.ensures c.if-is_alone_below.true
+pub returns-then-child_has_one_owner-clause-sole : goal.returns-then-child_has_one_owner-clause-sole
+returns-then-child_has_one_owner-clause-sole g c = sym (owners-seen c.self.invariant.counted c.self.view_is c.child.view_is) ∙ is-one c.child_has_one_owner.result _ c.child_has_one_owner.ensures c.if-child_has_one_owner.true
 
-pub returns-then-is_alone_below-clause-changes : goal.returns-then-is_alone_below-clause-changes
-returns-then-is_alone_below-clause-changes g c =
+pub returns-then-child_has_one_owner-clause-changes : goal.returns-then-child_has_one_owner-clause-changes
+returns-then-child_has_one_owner-clause-changes g c =
     let graph = rw c.self.view_is at (IsGraph-stored _ _ _ _ c.self.invariant) in
     Changes-Builds c.args.parent graph (λ k up one. one) (Builds-refl c.args.self.now [] 0 1 graph)
 
 pub copied-place-requires-clause-room : goal.copied-place-requires-clause-room
 copied-place-requires-clause-room g c = owners-room c.self.invariant
 
-pub is_alone_below-requires-clause-room : goal.is_alone_below-requires-clause-room
-is_alone_below-requires-clause-room g c = omega (arith, owners-room c.self.invariant c.child.inside.place)
+pub child_has_one_owner-requires-clause-room : goal.child_has_one_owner-requires-clause-room
+child_has_one_owner-requires-clause-room g c = omega (arith, owners-room c.self.invariant c.child.inside.place)
 
-pub is_alone_below-requires-clause-counted : goal.is_alone_below-requires-clause-counted
-is_alone_below-requires-clause-counted g c = c.self.invariant.counted.places c.child.inside.place
+pub child_has_one_owner-requires-clause-counted : goal.child_has_one_owner-requires-clause-counted
+child_has_one_owner-requires-clause-counted g c = c.self.invariant.counted.places c.child.inside.place
 
-pub is_alone_below-requires-clause-linked : goal.is_alone_below-requires-clause-linked
-is_alone_below-requires-clause-linked g c =
+pub child_has_one_owner-requires-clause-linked : goal.child_has_one_owner-requires-clause-linked
+child_has_one_owner-requires-clause-linked g c =
     let counted = c.self.invariant.counted in
     let links = links_of (graph_of c.self.inside.table.slots c.parent.inside.place) in
     let row = row-seen counted c.self.view_is c.parent.view_is in
@@ -56,19 +56,19 @@ replace_link-requires-clause-index g c = inside-copied c.self.invariant.counted 
 
 -- the child has an owner that is no place then
 pub drop_owner-requires-clause-more : goal.drop_owner-requires-clause-more
-drop_owner-requires-clause-more g c = (drop-child c.self.invariant.counted c.self.view_is c.parent.view_is c.copied-place.ensures.copies c.replace_link.ensures.rewrites c.requires.index (child_is g (goal.at.drop_owner-requires-clause-more g c).After-is_alone_below)).0
+drop_owner-requires-clause-more g c = (drop-child c.self.invariant.counted c.self.view_is c.parent.view_is c.copied-place.ensures.copies c.replace_link.ensures.rewrites c.requires.index (child_is g (goal.at.drop_owner-requires-clause-more g c).After-child_has_one_owner)).0
 
 pub drop_owner-requires-clause-live : goal.drop_owner-requires-clause-live
-drop_owner-requires-clause-live g c = (drop-child c.self.invariant.counted c.self.view_is c.parent.view_is c.copied-place.ensures.copies c.replace_link.ensures.rewrites c.requires.index (child_is g (goal.at.drop_owner-requires-clause-live g c).After-is_alone_below)).2
+drop_owner-requires-clause-live g c = (drop-child c.self.invariant.counted c.self.view_is c.parent.view_is c.copied-place.ensures.copies c.replace_link.ensures.rewrites c.requires.index (child_is g (goal.at.drop_owner-requires-clause-live g c).After-child_has_one_owner)).2
 
 -- the copy stands in the child's place, and the child has an owner less
 owns : (g : Over) (c : goal.After-drop_owner g) → OwnsChild c.self.inside.table.slots c.copied-place.new.table.slots c.replace_link.new.self.slots c.drop_owner.new.self.slots c.parent.inside.place c.args.index c.child.inside.place c.copied-place.result (owners_in (slot_at c.self.inside.table.slots c.child.inside.place) - 1)
 owns g c =
     let copied = c.copied-place.ensures in
     let done = c.drop_owner.ensures in
-    let number : owners_in (slot_at c.replace_link.new.self.slots c.child.inside.place) ≡ owners_in (slot_at c.self.inside.table.slots c.child.inside.place) = (drop-child c.self.invariant.counted c.self.view_is c.parent.view_is c.copied-place.ensures.copies c.replace_link.ensures.rewrites c.requires.index (child_is g (goal.at.returns g c).After-is_alone_below)).1 in
+    let number : owners_in (slot_at c.replace_link.new.self.slots c.child.inside.place) ≡ owners_in (slot_at c.self.inside.table.slots c.child.inside.place) = (drop-child c.self.invariant.counted c.self.view_is c.parent.view_is c.copied-place.ensures.copies c.replace_link.ensures.rewrites c.requires.index (child_is g (goal.at.returns g c).After-child_has_one_owner)).1 in
     let sets = subst (λ n. SetsOwners c.replace_link.new.self.slots c.drop_owner.new.self.slots c.child.inside.place (n - 1)) number done.sets in
-    OwnsChild-seen c.self.invariant.counted c.self.view_is c.parent.view_is copied.copies copied.counted c.replace_link.ensures.rewrites sets done.rows refl (not-one c.is_alone_below.result _ c.is_alone_below.ensures c.if-is_alone_below.false) c.requires.sole c.requires.index (child_is g (goal.at.returns g c).After-is_alone_below)
+    OwnsChild-seen c.self.invariant.counted c.self.view_is c.parent.view_is copied.copies copied.counted c.replace_link.ensures.rewrites sets done.rows refl (not-one c.child_has_one_owner.result _ c.child_has_one_owner.ensures c.if-child_has_one_owner.false) c.requires.sole c.requires.index (child_is g (goal.at.returns g c).After-child_has_one_owner)
 
 pub invariant_of-self : goal.invariant_of-self
 invariant_of-self g c =
@@ -88,6 +88,6 @@ returns g c =
     let copied = c.copied-place.ensures in
     let wrote = c.replace_link.ensures.room in
     let done = c.drop_owner.ensures.room in
-    rw (← child_is g (goal.at.returns g c).After-is_alone_below)
+    rw (← child_is g (goal.at.returns g c).After-child_has_one_owner)
     (assumption (OwnsCopy-child c.self.invariant c.self.view_is c.parent.view_is (invariant_of-self g c) (owns g c) copied.cells copied.nodes (done.spare_cells ∙ wrote.spare_cells ∙ copied.spare_cells)
     (omega (arith, done.spare_nodes, wrote.spare_nodes, copied.spare_nodes)) c.saturating_add-self-inside.ensures))

@@ -4,7 +4,7 @@ use Rattle.node_heap.specs.Small.{cell_owners}
 use Rattle.node_heap.proofs.Free.{found, value_in}
 use Rattle.node_heap.proofs.Parting.{Covers-free}
 use Rattle.node_heap.proofs.Woven.{slot-inside}
-use Rattle.node_heap.proofs.Placed.{live-cell, live-node, read-cell, cell-links, node-owned, node-links, takes-cell, takes-node, IsTable-gone, IsTable-node}
+use Rattle.node_heap.proofs.Placed.{live-cell, live-node, read-cell, node-owned, takes-cell, takes-node, IsTable-gone, IsTable-node}
 use Rattle.node_heap.proofs.table.Table.take.Goals as goal
 
 pub index-requires : goal.index-requires
@@ -35,9 +35,6 @@ returns-then-place-eq0-clause-owners g c =
     let x = value_in _ live in
     c.owners-owners.ensures ∙ ap cell_owners (sym (found c.self.inside.cells.items (c.args.place / 2) _ _ live c.index.ensures) ∙ x.1) ∙ sym (ap owners_in (read-cell _ _ c.self.view_is c.args.place x.0 c.if-place-eq0.true x.1))
 
-pub returns-then-place-eq0-clause-links : goal.returns-then-place-eq0-clause-links
-returns-then-place-eq0-clause-links g c = c.clear.ensures ∙ cell-links _ _ c.self.view_is c.args.place c.if-place-eq0.true
-
 pub returns-then-place-eq0-clause-takes : goal.returns-then-place-eq0-clause-takes
 returns-then-place-eq0-clause-takes g c =
     let x = value_in _ (live-cell _ _ c.self.view_is c.args.place c.if-place-eq0.true c.requires) in
@@ -45,9 +42,6 @@ returns-then-place-eq0-clause-takes g c =
 
 pub owners-owners-requires-2 : goal.owners-owners-requires-2
 owners-owners-requires-2 g c = live-node _ _ c.self.view_is c.args.place c.if-place-eq0.false c.requires
-
-pub links-requires : goal.links-requires
-links-requires g c = live-node _ _ c.self.view_is c.args.place c.if-place-eq0.false c.requires
 
 pub free-requires : goal.free-requires
 free-requires g c = live-node _ _ c.self.view_is c.args.place c.if-place-eq0.false c.requires
@@ -57,9 +51,6 @@ invariant_of-self-2 g c = IsTable-node c.self.invariant _ (omega (arith, c.free.
 
 pub returns-clause-owners : goal.returns-clause-owners
 returns-clause-owners g c = c.owners-owners-2.ensures ∙ sym (node-owned _ _ c.self.view_is c.args.place c.if-place-eq0.false)
-
-pub returns-clause-links : goal.returns-clause-links
-returns-clause-links g c = c.rewrite.ensures ∙ c.links.ensures.value ∙ sym (node-links _ _ c.self.view_is c.args.place c.if-place-eq0.false)
 
 pub returns-clause-takes : goal.returns-clause-takes
 returns-clause-takes g c =

@@ -6,7 +6,7 @@ use Rattle.shell_terms.specs.Edit.{copy}
 use Rattle.plain_space.specs.Workspace.{Workspace, lines_of}
 use Rattle.state_rows.specs.InHeap.{AreLinesIn}
 use Rattle.space_state.specs.Roots.{Keeps}
-use Rattle.space_state.specs.InPlace.{new_key}
+use Rattle.space_state.specs.BatchEdits.{new_key}
 use Rattle.space_state.proofs.Keeping.{keeps-same}
 use Rattle.space_state.proofs.Editing.{found-lines, copy-absent, copy-made, no-room, due-absent, HasBufferRoom, HasLines, has-lines, has-room, made-again, can-put, edit-done, edit-refused, fails}
 use Rattle.space_state.proofs.Placing.{key-told}

@@ -8,7 +8,7 @@ use Rattle.plain_space.specs.declared.refusal.Refusal.TheVariants.{Absent, Range
 use Rattle.state_rows.specs.InHeap.{AreLinesIn}
 use Rattle.space_state.specs.declared.room.TheConstants.{EDIT_NODES}
 use Rattle.space_state.specs.Roots.{Keeps}
-use Rattle.space_state.specs.InPlace.{new_key}
+use Rattle.space_state.specs.BatchEdits.{new_key}
 use Rattle.space_state.specs.Turns.{RoomIsMade}
 use Rattle.space_state.proofs.Keeping.{keeps-same, lines-length}
 use Rattle.space_state.proofs.Steps.{none-there, some-there, not-yes}

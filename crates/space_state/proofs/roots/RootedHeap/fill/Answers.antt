@@ -6,7 +6,7 @@ use Rattle.plain_space.specs.Workspace.{Workspace, lines_of, with_lines}
 use Rattle.plain_space.specs.Edited.{edited}
 use Rattle.state_rows.specs.InHeap.{AreLinesIn}
 use Rattle.space_state.specs.Roots.{Keeps}
-use Rattle.space_state.specs.InPlace.{new_key}
+use Rattle.space_state.specs.BatchEdits.{new_key}
 use Rattle.space_state.proofs.Keeping.{holds-few, heap-is, same-heap, keeps-same}
 use Rattle.space_state.proofs.Editing.{fill-made, may-lack, IsMade, made-by, lines-put}
 use Rattle.space_state.proofs.Placing.{key-told}

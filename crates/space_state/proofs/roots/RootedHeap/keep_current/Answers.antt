@@ -5,7 +5,7 @@ use Rattle.space_state.specs.declared.roots.RootedHeap.{RootedHeap}
 use Rattle.space_state.specs.declared.undo_end.TheConstants.{TURN_NODES}
 use Rattle.space_state.specs.Roots.{Keeps}
 use Rattle.space_state.specs.Turns.{TurnsBeside}
-use Rattle.space_state.specs.InPlace.{current_kept}
+use Rattle.space_state.specs.BatchEdits.{current_kept}
 use Rattle.space_state.proofs.Keeping.{answered-one, keeps-gained, current-stands, besides-held, held-live, rises-answered, rises-refl, rises-more, turns-by, turns-after}
 use Rattle.space_state.proofs.Placing.{kept-inside, kept-outside}
 use Rattle.state_rows.proofs.Room.{room-made, room-then}

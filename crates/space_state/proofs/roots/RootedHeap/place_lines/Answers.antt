@@ -5,7 +5,7 @@ use Rattle.shell_terms.specs.Edit.{Bytes}
 use Rattle.plain_space.specs.Workspace.{Workspace, lines_of}
 use Rattle.plain_space.specs.Cost.{alike_buffers}
 use Rattle.space_state.specs.declared.room.TheConstants.{WRITTEN_NODES}
-use Rattle.space_state.specs.InPlace.{new_key}
+use Rattle.space_state.specs.BatchEdits.{new_key}
 use Rattle.space_state.proofs.Keeping.{holds-few, current-holds, current-stands, fewer-holds}
 use Rattle.space_state.proofs.Placing.{key-none, key-some, lines-placed}
 use Rattle.space_state.proofs.roots.RootedHeap.place_lines.Goals as goal

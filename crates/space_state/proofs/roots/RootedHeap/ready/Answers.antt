@@ -1,5 +1,5 @@
 use Rattle.std.proofs.Common.{[], refl, sym, subst, arith}
-use Rattle.state_rows.specs.InPlace.{MakesAtMost}
+use Rattle.state_rows.specs.EditedStates.{MakesAtMost}
 use Rattle.space_state.specs.declared.roots.RootedHeap.{RootedHeap}
 use Rattle.space_state.specs.declared.undo_end.TheConstants.{TURN_NODES}
 use Rattle.space_state.proofs.Keeping.{heap-is, same-heap, keeps-same, rises-same, turns-after}

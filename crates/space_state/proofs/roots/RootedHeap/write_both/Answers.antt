@@ -7,7 +7,7 @@ use Rattle.state_rows.specs.InHeap.{AreLinesIn}
 use Rattle.space_state.specs.declared.room.TheConstants.{WRITTEN_NODES}
 use Rattle.space_state.specs.Roots.{Keeps}
 use Rattle.space_state.specs.declared.undo_end.TheConstants.{TURN_NODES}
-use Rattle.space_state.specs.InPlace.{current_kept, new_key}
+use Rattle.space_state.specs.BatchEdits.{current_kept, new_key}
 use Rattle.space_state.specs.Turns.{TurnsTo, TurnsBeside}
 use Rattle.space_state.proofs.Keeping.{first-counts, second-counts, lines-beside, turns-then}
 use Rattle.space_state.proofs.Editing.{alike-with}

@@ -4,7 +4,7 @@ use Rattle.plain_space.specs.Workspace.{Workspace, with_lines}
 use Rattle.plain_space.specs.Cost.{alike_buffers}
 use Rattle.space_state.specs.declared.room.TheConstants.{WRITTEN_NODES}
 use Rattle.space_state.specs.declared.undo_end.TheConstants.{TURN_NODES}
-use Rattle.space_state.specs.InPlace.{current_kept}
+use Rattle.space_state.specs.BatchEdits.{current_kept}
 use Rattle.space_state.specs.Turns.{TurnsTo}
 use Rattle.space_state.proofs.Keeping.{first-counts, lines-beside, turns-then}
 use Rattle.space_state.proofs.Placing.{then-current, alike-turned}

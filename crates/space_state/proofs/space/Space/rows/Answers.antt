@@ -2,8 +2,11 @@ use Rattle.std.proofs.Common.{sym, ap, ◌∙◌, subst}
 use Rattle.pool_text.specs.Pool.{row_count}
 use Rattle.pool_check.specs.Damages.{IsValid}
 use Rattle.space_state.specs.View.{SpaceView}
-use Rattle.space_state.proofs.Front.{pool-valid, rows-are}
+use Rattle.space_state.proofs.Front.{pool-valid, rows-are, stood}
 use Rattle.space_state.proofs.space.Space.rows.Goals as goal
+
+pub returns-clause-stands : goal.returns-clause-stands
+returns-clause-stands c = stood c.self.inside.rows c.self.view_is c.self.invariant
 
 pub returns-clause-live : goal.returns-clause-live
 returns-clause-live c = c.live.ensures.value ∙ ap (λ (v : SpaceView). v.live) c.self.view_is

@@ -1,4 +1,3 @@
-use Rattle.std.proofs.Common.{◌+◌, arith}
 use Rattle.vector_tests.proofs.EditingLemmas.{cell-editing}
 use Rattle.vector_tests.proofs.editing.Editing.add_cell.Goals as goal
 

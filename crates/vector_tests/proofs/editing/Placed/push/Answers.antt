@@ -1,4 +1,4 @@
-use Rattle.std.proofs.Common.{◌<◌, arith}
+use Rattle.std.proofs.Common.{arith}
 use Rattle.std.proofs.lemmas.Result.{IfOk-at_ok}
 use Rattle.vector_tests.proofs.PlacedLemmas.{placed-cell, placed-push}
 use Rattle.vector_tests.proofs.editing.Placed.push.Goals as goal

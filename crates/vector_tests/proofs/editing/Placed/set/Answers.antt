@@ -1,4 +1,4 @@
-use Rattle.std.proofs.Common.{◌<◌, arith}
+use Rattle.std.proofs.Common.{arith}
 use Rattle.std.proofs.lemmas.Result.{IfOk-at_ok}
 use Rattle.vector_tests.proofs.PlacedLemmas.{placed-cell, placed-set, placed-release}
 use Rattle.vector_tests.proofs.editing.Placed.set.Goals as goal

@@ -1,4 +1,0 @@
-use Rattle.container_tests.proofs.writes.reads_through_a_glass.Given as goal
-
-abbrev pub ghosts-is_seven : goal.ghosts-is_seven
-ghosts-is_seven g a = record { name = a.blank.name; parts = a.blank.parts }
