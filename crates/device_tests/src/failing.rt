@@ -1,4 +1,4 @@
-//! The system for tests, but that one kind of its calls fails.
+//! The system for tests, but that one kind of its calls fails, or another program comes in between.
 
 use std::alloc::Allocator;
 use std::fs::{Metadata, OpenFile, OpenOptions, Permissions};
@@ -12,10 +12,17 @@ pub enum Fails {
     Look,
     Open,
     Read(u32),
+    /// The read is interrupted, and one behind it goes on.
+    Interrupt(u32),
     Write(u32),
     Sync,
     Rename,
+    /// Nothing fails, but before a file is opened another program puts a link to another in its place.
+    Link,
 }
+
+/// Where the other program's link leads.
+pub const ELSEWHERE: &str = "elsewhere-in-a-test";
 
 #[derive(Drop)]
 pub struct Failing<R> {
@@ -41,6 +48,10 @@ impl<R: Files> Files for Failing<R> {
 
     fn open_file(&self, how: &OpenOptions, path: &str) -> io::Result<FailingFile<R::File>> {
         self.fails.at(Fails::Open)?;
+        if self.fails == Fails::Link {
+            self.system.remove_file(path)?;
+            self.system.symlink(ELSEWHERE, path)?;
+        }
         let file = self.system.open_file(how, path)?;
         Ok(FailingFile {
             file,
@@ -108,6 +119,9 @@ impl<F: Read> Read for FailingFile<F> {
     fn read(&mut self, buf: &mut [u8]) -> io::Result<usize> {
         let before = self.next();
         self.fails.at(Fails::Read(before))?;
+        if self.fails == Fails::Interrupt(before) {
+            return Err(Error::from(ErrorKind::Interrupted));
+        }
         let most = buf.len().min(2);
         self.file.read(&mut buf[..most])
     }

@@ -79,88 +79,119 @@ fn answers(
     Ok(log)
 }
 
+// Whether a reader of these bytes, of which a source gives so many a call, answers this.
+fn is_answered(
+    alloc: Global,
+    input: &[u8],
+    piece: usize,
+    most: u32,
+    want: &[u8],
+) -> Result<bool, Fail> {
+    let log = answers(alloc, input, piece, Vec::new(alloc), most)?;
+    Ok(log.as_slice() == want)
+}
+
+// Bytes, and what a reader answers.
+const CUT: [(&[u8], &[u8]); 5] = [
+    (b"", b"."),
+    (b"\n", b"\n."),
+    (b"new a", b"new a\n."),
+    (b"new a\n", b"new a\n."),
+    (b"\n\nnew a\r\n\nlast", b"\n\nnew a\r\n\nlast\n."),
+];
+
 #[test]
 fn cuts_lines_however_the_bytes_come(rt: HostRuntime) -> Result<(), Fail> {
-    let table = [
-        (b"".as_slice(), b".".as_slice()),
-        (b"\n".as_slice(), b"\n.".as_slice()),
-        (b"new a".as_slice(), b"new a\n.".as_slice()),
-        (b"new a\n".as_slice(), b"new a\n.".as_slice()),
-        (
-            b"\n\nnew a\r\n\nlast".as_slice(),
-            b"\n\nnew a\r\n\nlast\n.".as_slice(),
-        ),
-    ];
-    for (input, want) in table {
+    for (input, want) in CUT {
         for piece in 1..20usize {
-            let log = answers(rt.alloc(), input, piece, Vec::new(rt.alloc()), 100)?;
-            assert_eq!(rt; log.as_slice(), want, "at {piece}");
+            assert!(rt;
+                is_answered(rt.alloc(), input, piece, 100, want)?,
+                "at {piece}"
+            );
         }
     }
     Ok(())
 }
 
-fn by_threes(alloc: Global, fails: Vec<u64>) -> Result<Vec<u8>, Fail> {
+// Three lines, read by three bytes a call, of which this one fails.
+fn by_threes(alloc: Global, call: u64) -> Result<Vec<u8>, Fail> {
+    let mut fails = Vec::new(alloc);
+    fails.push(call)?;
     answers(alloc, b"one\ntwo\nthree", 3, fails, 100)
 }
 
+// What a reader of them answers where the call of this number fails.
+const FAILED: [(u64, &[u8]); 7] = [
+    (0, b"?one\ntwo\nthree\n."),
+    (1, b"?one\ntwo\nthree\n."),
+    (2, b"one\n?two\nthree\n."),
+    (3, b"one\ntwo\n?three\n."),
+    (4, b"one\ntwo\n?three\n."),
+    (5, b"one\ntwo\n?three\n."),
+    (6, b"one\ntwo\nthree\n."),
+];
+
 #[test]
 fn goes_on_after_a_fault_at_each_call(rt: HostRuntime) -> Result<(), Fail> {
-    let calls = [
-        b"?one\ntwo\nthree\n.".as_slice(),
-        b"?one\ntwo\nthree\n.".as_slice(),
-        b"one\n?two\nthree\n.".as_slice(),
-        b"one\ntwo\n?three\n.".as_slice(),
-        b"one\ntwo\n?three\n.".as_slice(),
-        b"one\ntwo\n?three\n.".as_slice(),
-        b"one\ntwo\nthree\n.".as_slice(),
-    ];
-    for (call, want) in calls.iter().enumerate() {
-        let mut fails = Vec::new(rt.alloc());
-        fails.push(call as u64)?;
-        let log = by_threes(rt.alloc(), fails)?;
-        assert_eq!(rt; log.as_slice(), *want, "at {call}");
+    for (call, want) in FAILED {
+        let log = by_threes(rt.alloc(), call)?;
+        assert!(rt; log.as_slice() == want, "at {call}");
     }
     Ok(())
 }
 
+// The most bytes that are taken, and what a reader of three lines answers.
+const BOUNDED: [(u32, &[u8]); 8] = [
+    (0, b"$"),
+    (2, b"$"),
+    (3, b"ab\n$"),
+    (5, b"ab\n$"),
+    (6, b"ab\ncd\n$"),
+    (7, b"ab\ncd\n$"),
+    (8, b"ab\ncd\nef\n."),
+    (9, b"ab\ncd\nef\n."),
+];
+
 #[test]
 fn stops_one_byte_past_the_bound(rt: HostRuntime) -> Result<(), Fail> {
-    let table = [
-        (0, b"$".as_slice()),
-        (2, b"$".as_slice()),
-        (3, b"ab\n$".as_slice()),
-        (5, b"ab\n$".as_slice()),
-        (6, b"ab\ncd\n$".as_slice()),
-        (7, b"ab\ncd\n$".as_slice()),
-        (8, b"ab\ncd\nef\n.".as_slice()),
-        (9, b"ab\ncd\nef\n.".as_slice()),
-    ];
-    for (most, want) in table {
+    for (most, want) in BOUNDED {
         for piece in 1..11usize {
-            let log = answers(rt.alloc(), b"ab\ncd\nef", piece, Vec::new(rt.alloc()), most)?;
-            assert_eq!(rt; log.as_slice(), want, "{most} bytes by {piece}");
+            assert!(rt;
+                is_answered(rt.alloc(), b"ab\ncd\nef", piece, most, want)?,
+                "{most} by {piece}"
+            );
         }
     }
     Ok(())
+}
+
+// So many bytes of a letter, and a newline.
+fn long_line(alloc: Global, letter: u8, length: usize) -> Result<Vec<u8>, Fail> {
+    let mut line = vec![in alloc; letter; length]?;
+    line.push(b'\n')?;
+    Ok(line)
+}
+
+// The longest line, two that are longer, and the front of a line; and what a reader answers.
+fn long_lines(alloc: Global) -> Result<(Vec<u8>, Vec<u8>), Fail> {
+    let mut input = long_line(alloc, b'a', 65_536)?;
+    let mut want = input.clone()?;
+    for length in [65_537usize, 300_000] {
+        input.extend_from_slice(&long_line(alloc, b'b', length)?)?;
+    }
+    input.push(b'c')?;
+    want.extend_from_slice(b"long\nlong\nc\n.")?;
+    Ok((input, want))
 }
 
 #[test]
 fn passes_over_lines_past_the_limit(rt: HostRuntime) -> Result<(), Fail> {
-    let alloc = rt.alloc();
-    let mut input = vec![in alloc; b'a'; 65_536]?;
-    input.push(b'\n')?;
-    let mut want = input.clone()?;
-    for length in [65_537usize, 300_000] {
-        input.extend_from_slice(&vec![in alloc; b'b'; length]?)?;
-        input.push(b'\n')?;
-        want.extend_from_slice(b"long\n")?;
-    }
-    input.push(b'c')?;
-    want.extend_from_slice(b"c\n.")?;
+    let (input, want) = long_lines(rt.alloc())?;
     for piece in [100usize, 4096, 65_537, 1_000_000] {
-        let log = answers(alloc, &input, piece, Vec::new(alloc), 1_000_000)?;
-        assert!(rt; log.as_slice() == want.as_slice(), "by {piece}");
+        assert!(rt;
+            is_answered(rt.alloc(), &input, piece, 1_000_000, &want)?,
+            "by {piece}"
+        );
     }
     Ok(())
 }
@@ -178,30 +209,33 @@ fn lines_told(alloc: Global, bytes: &[u8]) -> Result<Result<String, LinesFault>,
     Ok(Ok(told))
 }
 
+// A file, and its lines.
+const FILES: [(&[u8], &str); 6] = [
+    (b"", ""),
+    (b"\n", "0:;"),
+    (b"one", "3:one;"),
+    (b"one\n", "3:one;"),
+    (b"one\n\n", "3:one;0:;"),
+    (b"one\r\n \xc3\xa9\nlast", "4:one\r;3: \u{e9};4:last;"),
+];
+
 #[test]
 fn cuts_a_file_into_lines(rt: HostRuntime) -> Result<(), Fail> {
-    let alloc = rt.alloc();
-    let table = [
-        (b"".as_slice(), ""),
-        (b"\n".as_slice(), "0:;"),
-        (b"one".as_slice(), "3:one;"),
-        (b"one\n".as_slice(), "3:one;"),
-        (b"one\n\n".as_slice(), "3:one;0:;"),
-        (
-            b"one\r\n \xc3\xa9\nlast".as_slice(),
-            "4:one\r;3: \u{e9};4:last;",
-        ),
-    ];
-    for (bytes, want) in table {
-        let told = lines_told(alloc, bytes)?;
-        assert_eq!(rt; told.as_ref().map(|text| text.as_str()), Ok(want));
+    for (bytes, want) in FILES {
+        let told = lines_told(rt.alloc(), bytes)?;
+        assert!(rt; told.as_ref().map(|text| text.as_str()) == Ok(want));
     }
-    let mut long = vec![in alloc; b'x'; 65_536]?;
-    long.push(b'\n')?;
-    assert!(rt; lines_told(alloc, &long)?.is_ok());
+    Ok(())
+}
+
+// The longest line makes a file, one that isn't text none, and one that is longer neither.
+#[test]
+fn tells_a_long_line_before_one_that_is_no_text(rt: HostRuntime) -> Result<(), Fail> {
+    let mut long = long_line(rt.alloc(), b'x', 65_536)?;
+    assert!(rt; lines_told(rt.alloc(), &long)?.is_ok());
     long.push(0xff)?;
-    assert_eq!(rt; lines_told(alloc, &long)?.err(), Some(LinesFault::Utf8));
+    assert!(rt; lines_told(rt.alloc(), &long)?.err() == Some(LinesFault::Utf8));
     long.insert(0, b'x')?;
-    assert_eq!(rt; lines_told(alloc, &long)?.err(), Some(LinesFault::Long));
+    assert!(rt; lines_told(rt.alloc(), &long)?.err() == Some(LinesFault::Long));
     Ok(())
 }

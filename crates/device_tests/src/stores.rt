@@ -1,9 +1,10 @@
 //! Stores: one over memory, and one over real files.
 
-use crate::failing::{Failing, Fails};
+use crate::failing::{ELSEWHERE, Failing, Fails};
 use shell_io::{DirStore, FetchFault, KeepFault, MemStore, Store};
 use std::fs;
-use std::os::unix::fs::symlink;
+use std::fs::Permissions;
+use std::os::unix::fs::{MetadataExt, PermissionsExt, symlink};
 use std::process::Abort;
 use std::rt::Files;
 use std::test::Fail;
@@ -103,6 +104,9 @@ fn keeps_or_leaves(
         Err(FetchFault::Failed)
     };
     assert_eq!(rt; fetched, fetch_fault, "at {fails:?}");
+    if fetches {
+        assert_eq!(rt; file.as_slice(), b"the old file".as_slice(), "at {fails:?}");
+    }
     let kept = store.keep("old-of-a-test", b"the new file");
     let keep_fault = if keeps {
         Ok(())
@@ -122,10 +126,11 @@ fn keeps_or_leaves(
 }
 
 // The call of the system that fails, and whether a fetch and a keep succeed then.
-const FAULTS: [(Fails, bool, bool); 6] = [
+const FAULTS: [(Fails, bool, bool); 7] = [
     (Fails::Look, false, false),
     (Fails::Open, false, false),
     (Fails::Read(1), false, true),
+    (Fails::Interrupt(1), true, true),
     (Fails::Write(1), true, false),
     (Fails::Sync, true, false),
     (Fails::Rename, true, false),
@@ -139,6 +144,60 @@ fn leaves_the_old_file_after_a_fault(rt: HostRuntime) -> Result<(), Fail> {
     }
     fs::remove_file(&rt, "old-of-a-test")?;
     Ok(())
+}
+
+#[test]
+fn refuses_a_link_put_in_between(rt: HostRuntime) -> Result<(), Fail> {
+    // What an earlier run may have left.
+    let _ = fs::remove_file(&rt, "looked-at-by-a-test");
+    fs::write(&rt, "looked-at-by-a-test", b"old")?;
+    fs::write(&rt, ELSEWHERE, b"no file of the store")?;
+    let system = Failing {
+        system: &rt,
+        fails: Fails::Link,
+    };
+    let mut store = DirStore::new((system, rt.alloc()));
+    let mut file = Vec::new(rt.alloc());
+    let fetched = store.fetch("looked-at-by-a-test", 100, &mut file);
+    assert_eq!(rt; fetched, Err(FetchFault::Failed));
+    assert_eq!(rt; file.as_slice(), b"".as_slice());
+    // The link was there, and led to that file.
+    let linked = fs::read(&rt, "looked-at-by-a-test")?;
+    assert_eq!(rt; linked.as_slice(), b"no file of the store".as_slice());
+    fs::remove_file(&rt, "looked-at-by-a-test")?;
+    fs::remove_file(&rt, ELSEWHERE)?;
+    Ok(())
+}
+
+// Keeps over a file of these permissions: whether it does, and what is there then. The new file has the permissions of the old one.
+fn keeps_over(
+    rt: &(impl Abort + AllocGlobal + Files),
+    mode: u32,
+    want: Result<(), KeepFault>,
+    there: &[u8],
+) -> Result<(), Fail> {
+    let name = "file-with-rights-of-a-test";
+    let _ = fs::remove_file(rt, name);
+    fs::write(rt, name, b"old")?;
+    fs::set_permissions(rt, name, Permissions::from_mode(mode))?;
+    let mut store = DirStore::new(rt);
+    assert_eq!(rt; store.keep(name, b"new"), want, "of {mode}");
+    let file = fs::read(rt, name)?;
+    assert_eq!(rt; file.as_slice(), there, "of {mode}");
+    assert_eq!(rt; fs::metadata(rt, name)?.mode() & 0o777, mode);
+    assert!(rt;
+        !fs::exists(rt, ".file-with-rights-of-a-test.0")?,
+        "of {mode}"
+    );
+    fs::remove_file(rt, name)?;
+    Ok(())
+}
+
+#[test]
+fn replaces_no_file_without_write_rights(rt: HostRuntime) -> Result<(), Fail> {
+    keeps_over(&rt, 0o444, Err(KeepFault::Failed), b"old")?;
+    keeps_over(&rt, 0o640, Ok(()), b"new")?;
+    keeps_over(&rt, 0o600, Ok(()), b"new")
 }
 
 // The third read fails, and two take the four bytes that tell that the file has more than three.

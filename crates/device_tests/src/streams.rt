@@ -1,27 +1,33 @@
 //! Sinks over memory, and standard devices over streams.
 
 use shell_io::{Failed, LineReader, MemSink, Next, Sink, Source, StdSink, StdSource, write_all};
+use std::alloc::Global;
 use std::io;
 use std::io::{ErrorKind, Read, Write};
 use std::test::Fail;
 
+// The room, the most bytes a call takes and the call that fails; what is written, and whether all.
+const PIECES: [(usize, usize, u64, &[u8], bool); 5] = [
+    (9, 9, 7, b"= a 1\nok\n", true),
+    (20, 1, 9, b"= a 1\nok\n", true),
+    (8, 9, 9, b"= a 1\nok", false),
+    (9, 4, 1, b"= a ", false),
+    (9, 4, 0, b"", false),
+];
+
+// A sink over memory of this room, of which one call fails.
+fn failing_sink(alloc: Global, room: usize, piece: usize, call: u64) -> Result<MemSink, Fail> {
+    let mut fails = Vec::new(alloc);
+    fails.push(call)?;
+    Ok(MemSink::new(alloc, room, piece.max(1), fails)?)
+}
+
 #[test]
 fn writes_a_piece_or_its_front(rt: HostRuntime) -> Result<(), Fail> {
-    // The room, the most bytes a call takes and the call that fails; what is written, and whether all.
-    let table = [
-        (9, 9, 7, b"= a 1\nok\n".as_slice(), true),
-        (20, 1, 9, b"= a 1\nok\n".as_slice(), true),
-        (8, 9, 9, b"= a 1\nok".as_slice(), false),
-        (9, 4, 1, b"= a ".as_slice(), false),
-        (9, 4, 0, b"".as_slice(), false),
-    ];
-    for (room, piece, call, want, whole) in table {
-        let mut fails = Vec::new(rt.alloc());
-        fails.push(call)?;
-        let mut sink = MemSink::new(rt.alloc(), room, piece, fails)?;
+    for (room, piece, call, want, whole) in PIECES {
+        let mut sink = failing_sink(rt.alloc(), room, piece, call)?;
         let written = write_all(&mut sink, b"= a 1\nok\n");
-        assert_eq!(rt; sink.bytes(), want);
-        assert_eq!(rt; written.is_ok(), whole);
+        assert!(rt; sink.bytes() == want && written.is_ok() == whole);
     }
     Ok(())
 }

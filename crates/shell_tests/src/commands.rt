@@ -98,366 +98,355 @@ const NEW_LONGER: &str = "new abcdefghijklmnopqrstuvwxyzABCDEFGHIJKLMNOPQRSTUVWX
 fn reads(rt: &impl Abort, line: &str, want: CommandParts<'_>) {
     match read(rt, line.as_bytes()) {
         Ok(command) => {
-            let (word, name, other, first, second, text) = parts(command);
-            assert_eq!(rt; word, want.0, "at {line}");
-            assert_eq!(rt; name, want.1, "at {line}");
-            assert_eq!(rt; other, want.2, "at {line}");
-            assert_eq!(rt; first, want.3, "at {line}");
-            assert_eq!(rt; second, want.4, "at {line}");
-            assert_eq!(rt; text, want.5, "at {line}");
+            assert!(rt; parts(command) == want, "at {line}");
         }
         Err(bad) => panic!(rt; "{bad} at {line}"),
     }
 }
 
+// Commands that are a word alone.
+const BARE: [&str; 11] = [
+    "undo", "redo", "begin", "end", "abort", "list", "stars", "marks", "stats", "made", "quit",
+];
+
 #[test]
-fn reads_edits(rt: HostRuntime) {
-    let rows = [
-        ("new a", ("new", "a", "", 0, 0, "")),
-        ("new Z.9_-", ("new", "Z.9_-", "", 0, 0, "")),
-        (NEW_LONGEST, ("new", LONGEST, "", 0, 0, "")),
-        ("add a hello", ("add", "a", "", 0, 0, "hello")),
-        ("add a ", ("add", "a", "", 0, 0, "")),
-        (
-            "add a  two  spaces ",
-            ("add", "a", "", 0, 0, " two  spaces "),
-        ),
-        ("add a \r", ("add", "a", "", 0, 0, "\r")),
-        ("add a tab\tand é\r", ("add", "a", "", 0, 0, "tab\tand é\r")),
-        ("set a 0 x", ("set", "a", "", 0, 0, "x")),
-        ("set a 1 two  2 ", ("set", "a", "", 1, 0, "two  2 ")),
-        ("put a 2 ", ("put", "a", "", 2, 0, "")),
-        (
-            "put a 4294967295 x",
-            ("put", "a", "", 4_294_967_295, 0, "x"),
-        ),
-        ("del a 1 3", ("del", "a", "", 1, 3, "")),
-        ("del a 3 1", ("del", "a", "", 3, 1, "")),
-        ("cat a b", ("cat", "a", "b", 0, 0, "")),
-        ("cat a a", ("cat", "a", "a", 0, 0, "")),
-        ("cut a 0 2 b", ("cut", "a", "b", 0, 2, "")),
-        ("copy b c", ("copy", "b", "c", 0, 0, "")),
-        ("drop a", ("drop", "a", "", 0, 0, "")),
-        ("star z", ("star", "z", "", 0, 0, "")),
-        ("unstar y", ("unstar", "y", "", 0, 0, "")),
-        ("starmerge v", ("starmerge", "v", "", 0, 0, "")),
-        ("starboth v", ("starboth", "v", "", 0, 0, "")),
-        ("starless v", ("starless", "v", "", 0, 0, "")),
-        ("merge v", ("merge", "v", "", 0, 0, "")),
-    ];
-    for (line, want) in rows {
-        reads(&rt, line, want);
+fn reads_words_alone(rt: HostRuntime) {
+    for line in BARE {
+        reads(&rt, line, (line, "", "", 0, 0, ""));
     }
 }
 
+// Commands of a word and a name.
+const NAMED: [(&str, &str, &str); 16] = [
+    ("new a", "new", "a"),
+    ("new Z.9_-", "new", "Z.9_-"),
+    (NEW_LONGEST, "new", LONGEST),
+    ("drop a", "drop", "a"),
+    ("star z", "star", "z"),
+    ("unstar y", "unstar", "y"),
+    ("starmerge v", "starmerge", "v"),
+    ("starboth v", "starboth", "v"),
+    ("starless v", "starless", "v"),
+    ("merge v", "merge", "v"),
+    ("mark v", "mark", "v"),
+    ("unmark v", "unmark", "v"),
+    ("back v", "back", "v"),
+    ("len a", "len", "a"),
+    ("save s.json", "save", "s.json"),
+    ("load d", "load", "d"),
+];
+
 #[test]
-fn reads_other_commands(rt: HostRuntime) {
-    let rows = [
-        ("mark v", ("mark", "v", "", 0, 0, "")),
-        ("unmark v", ("unmark", "v", "", 0, 0, "")),
-        ("back v", ("back", "v", "", 0, 0, "")),
-        ("undo", ("undo", "", "", 0, 0, "")),
-        ("redo", ("redo", "", "", 0, 0, "")),
-        ("begin", ("begin", "", "", 0, 0, "")),
-        ("end", ("end", "", "", 0, 0, "")),
-        ("abort", ("abort", "", "", 0, 0, "")),
-        ("history 0", ("history", "", "", 0, 0, "")),
-        (
-            "history 4294967295",
-            ("history", "", "", 4_294_967_295, 0, ""),
-        ),
-        ("get a 0", ("get", "a", "", 0, 0, "")),
-        ("get a 10", ("get", "a", "", 10, 0, "")),
-        ("get a 4294967295", ("get", "a", "", 4_294_967_295, 0, "")),
-        ("len a", ("len", "a", "", 0, 0, "")),
-        ("show a 1 1", ("show", "a", "", 1, 1, "")),
-        ("show a 0 2", ("show", "a", "", 0, 2, "")),
-        ("list", ("list", "", "", 0, 0, "")),
-        ("stars", ("stars", "", "", 0, 0, "")),
-        ("marks", ("marks", "", "", 0, 0, "")),
-        ("same b c", ("same", "b", "c", 0, 0, "")),
-        ("same b b", ("same", "b", "b", 0, 0, "")),
-        ("eqv v w", ("eqv", "v", "w", 0, 0, "")),
-        ("stats", ("stats", "", "", 0, 0, "")),
-        ("made", ("made", "", "", 0, 0, "")),
-        ("read n notes.txt", ("read", "n", "notes.txt", 0, 0, "")),
-        ("write n out", ("write", "n", "out", 0, 0, "")),
-        ("save s.json", ("save", "s.json", "", 0, 0, "")),
-        ("load d", ("load", "d", "", 0, 0, "")),
-        ("part s 1", ("part", "s", "", 1, 0, "")),
-        (
-            "chain s 4294967295",
-            ("chain", "s", "", 4_294_967_295, 0, ""),
-        ),
-        // With its full stop and its number the file has a name of 64 bytes.
-        (
-            "part abcdefghijklmnopqrstuvwxyzABCDEFGHIJKLMNOPQRSTUVWXYZ0123456789 1",
-            (
-                "part",
-                "abcdefghijklmnopqrstuvwxyzABCDEFGHIJKLMNOPQRSTUVWXYZ0123456789",
-                "",
-                1,
-                0,
-                "",
-            ),
-        ),
-        (
-            "part abcdefghijklmnopqrstuvwxyzABCDEFGHIJKLMNOPQRSTUVWXYZ012345678 10",
-            (
-                "part",
-                "abcdefghijklmnopqrstuvwxyzABCDEFGHIJKLMNOPQRSTUVWXYZ012345678",
-                "",
-                10,
-                0,
-                "",
-            ),
-        ),
-        ("indent 2 u", ("indent", "u", "", 2, 0, "")),
-        (
-            "indent 4294967295 u",
-            ("indent", "u", "", 4_294_967_295, 0, ""),
-        ),
-        ("dedent 0 w", ("dedent", "w", "", 0, 0, "")),
-        ("quit", ("quit", "", "", 0, 0, "")),
-    ];
-    for (line, want) in rows {
-        reads(&rt, line, want);
+fn reads_names(rt: HostRuntime) {
+    for (line, word, name) in NAMED {
+        reads(&rt, line, (word, name, "", 0, 0, ""));
+    }
+}
+
+// Edits that end in a text, with their word, name, index or 0, and text.
+const TEXTS: [(&str, &str, &str, u32, &str); 9] = [
+    ("add a hello", "add", "a", 0, "hello"),
+    ("add a ", "add", "a", 0, ""),
+    ("add a  two  spaces ", "add", "a", 0, " two  spaces "),
+    ("add a \r", "add", "a", 0, "\r"),
+    ("add a tab\tand é\r", "add", "a", 0, "tab\tand é\r"),
+    ("set a 0 x", "set", "a", 0, "x"),
+    ("set a 1 two  2 ", "set", "a", 1, "two  2 "),
+    ("put a 2 ", "put", "a", 2, ""),
+    ("put a 4294967295 x", "put", "a", 4_294_967_295, "x"),
+];
+
+#[test]
+fn reads_texts(rt: HostRuntime) {
+    for (line, word, name, index, text) in TEXTS {
+        reads(&rt, line, (word, name, "", index, 0, text));
+    }
+}
+
+// Commands with one number, and with one name but for `history`.
+const NUMBERED: [(&str, &str, &str, u32); 12] = [
+    ("history 0", "history", "", 0),
+    ("history 4294967295", "history", "", 4_294_967_295),
+    ("get a 0", "get", "a", 0),
+    ("get a 10", "get", "a", 10),
+    ("get a 4294967295", "get", "a", 4_294_967_295),
+    ("part s 1", "part", "s", 1),
+    ("chain s 4294967295", "chain", "s", 4_294_967_295),
+    // With its full stop and its number the file has a name of 64 bytes.
+    (
+        "part abcdefghijklmnopqrstuvwxyzABCDEFGHIJKLMNOPQRSTUVWXYZ0123456789 1",
+        "part",
+        "abcdefghijklmnopqrstuvwxyzABCDEFGHIJKLMNOPQRSTUVWXYZ0123456789",
+        1,
+    ),
+    (
+        "part abcdefghijklmnopqrstuvwxyzABCDEFGHIJKLMNOPQRSTUVWXYZ012345678 10",
+        "part",
+        "abcdefghijklmnopqrstuvwxyzABCDEFGHIJKLMNOPQRSTUVWXYZ012345678",
+        10,
+    ),
+    ("indent 2 u", "indent", "u", 2),
+    ("indent 4294967295 u", "indent", "u", 4_294_967_295),
+    ("dedent 0 w", "dedent", "w", 0),
+];
+
+#[test]
+fn reads_a_number(rt: HostRuntime) {
+    for (line, word, name, number) in NUMBERED {
+        reads(&rt, line, (word, name, "", number, 0, ""));
+    }
+}
+
+// Commands with two names.
+const TWO_NAMES: [(&str, &str, &str, &str); 8] = [
+    ("cat a b", "cat", "a", "b"),
+    ("cat a a", "cat", "a", "a"),
+    ("copy b c", "copy", "b", "c"),
+    ("same b c", "same", "b", "c"),
+    ("same b b", "same", "b", "b"),
+    ("eqv v w", "eqv", "v", "w"),
+    ("read n notes.txt", "read", "n", "notes.txt"),
+    ("write n out", "write", "n", "out"),
+];
+
+#[test]
+fn reads_two_names(rt: HostRuntime) {
+    for (line, word, name, other) in TWO_NAMES {
+        reads(&rt, line, (word, name, other, 0, 0, ""));
+    }
+}
+
+// Commands with two numbers, and `cut` with two names.
+const TWO_NUMBERS: [(&str, &str, &str, &str, u32, u32); 5] = [
+    ("del a 1 3", "del", "a", "", 1, 3),
+    ("del a 3 1", "del", "a", "", 3, 1),
+    ("cut a 0 2 b", "cut", "a", "b", 0, 2),
+    ("show a 1 1", "show", "a", "", 1, 1),
+    ("show a 0 2", "show", "a", "", 0, 2),
+];
+
+#[test]
+fn reads_two_numbers(rt: HostRuntime) {
+    for (line, word, name, other, first, second) in TWO_NUMBERS {
+        reads(&rt, line, (word, name, other, first, second, ""));
     }
 }
 
 // Reads the lines, each of which must be refused as this.
-fn refuses(rt: &impl Abort, lines: [&str; 7], want: BadLine) {
+fn refuses(rt: &impl Abort, lines: &[&str], want: BadLine) {
     for line in lines {
-        match read(rt, line.as_bytes()) {
-            Ok(_) => panic!(rt; "a command at {line}"),
-            Err(bad) => assert_eq!(rt; bad, want, "at {line}"),
-        }
+        assert!(rt; read(rt, line.as_bytes()).err() == Some(want), "at {line}");
     }
 }
 
-// What lines must be refused as, and lines of that kind.
-const REFUSED: [(BadLine, [&str; 7]); 20] = [
-    // A word that is none, and a wrong number of pieces.
-    (
-        BadLine::Command,
-        ["", " ", "hello", "New a", " new a", "new\u{a0}a", "sames"],
-    ),
-    (
-        BadLine::Command,
-        ["new", "new a ", "new a b", "new  a", "add", "add a", "len"],
-    ),
-    (
-        BadLine::Command,
-        [
-            "len a ", "list ", "list a", "list\r", "quit ", "quit a", "quit\r",
-        ],
-    ),
-    (
-        BadLine::Command,
-        [
-            "set a 0",
-            "put a",
-            "del a 0",
-            "del a 0 1 ",
-            "cat a",
-            "cat a b c",
-            "cut a 0 2",
-        ],
-    ),
-    (
-        BadLine::Command,
-        [
-            "cut a 0 2 b ",
-            "copy  a b",
-            "drop",
-            "star",
-            "undo ",
-            "end x",
-            "show a 1",
-        ],
-    ),
-    (
-        BadLine::Command,
-        [
-            "same b",
-            "same b c d",
-            "eqv v",
-            "eqv v w ",
-            "stats x",
-            "save",
-            "load s t",
-        ],
-    ),
-    (
-        BadLine::Command,
-        [
-            "stats ", "stats\r", "made x", "made ", "made\r", "Made", "mades",
-        ],
-    ),
-    // A number that doesn't read, also behind what is no name.
-    (
-        BadLine::Command,
-        [
-            "get a", "get a ", "get a 01", "get a 00", "get a +1", "get a -1", "get a 1 ",
-        ],
-    ),
-    (
-        BadLine::Command,
-        [
-            "get a  1",
-            "get a 1x",
-            "get a 1\r",
-            "get a 0 x",
-            "get .x 01",
-            "get .x",
-            "get  ",
-        ],
-    ),
-    (
-        BadLine::Command,
-        [
-            "get a 4294967296",
-            "get a 10000000000",
-            "get a 1.0",
-            "get a é",
-            "len .x y",
-            "new .x ",
-            "list .x",
-        ],
-    ),
-    (
-        BadLine::Command,
-        [
-            "cut .x 0 02 b",
-            "cut a 0 -1 .x",
-            "del a 00 1",
-            "show a 0 1x",
-            "set a 01 t",
-            "put .x x t",
-            "set a  t",
-        ],
-    ),
-    (
-        BadLine::Command,
-        [
-            "merge",
-            "merge v w",
-            "starmerge v ",
-            "starless",
-            "indent u 2",
-            "indent 01 u",
-            "dedent 1",
-        ],
-    ),
-    (
-        BadLine::Command,
-        [
-            "part",
-            "part s",
-            "part s 01",
-            "chain s 1 ",
-            "chain .s x",
-            "chain 1 s",
-            "part s 4294967296",
-        ],
-    ),
-    // A name that is none.
-    (
-        BadLine::Name,
-        [
-            "merge .v",
-            "starmerge ",
-            "starboth -v",
-            "starless é",
-            "indent 2 .u",
-            "dedent 2 ",
-            "indent 2 a/b",
-        ],
-    ),
-    (
-        BadLine::Name,
-        [
-            "part .s 1",
-            "chain -s 1",
-            "part abcdefghijklmnopqrstuvwxyzABCDEFGHIJKLMNOPQRSTUVWXYZ0123456789. 1",
-            "chain abcdefghijklmnopqrstuvwxyzABCDEFGHIJKLMNOPQRSTUVWXYZ0123456789 10",
-            "part abcdefghijklmnopqrstuvwxyzABCDEFGHIJKLMNOPQRSTUVWXYZ0123456789._ 1",
-            "chain abcdefghijklmnopqrstuvwxyzABCDEFGHIJKLMNOPQRSTUVWXYZ01234567 1000",
-            "part abcdefghijklmnopqrstuvwxyzABCDEFGHIJKLMNOPQRSTUVWXYZ012345678 100",
-        ],
-    ),
-    (
-        BadLine::Name,
-        [
-            "new .x", "new -x", "new ", "new a\r", "new é", "new a/b", NEW_LONGER,
-        ],
-    ),
-    (
-        BadLine::Name,
-        [
-            "add .x hello",
-            "add  x",
-            "add a\r x",
-            "get .x 0",
-            "get  0",
-            "len .x",
-            "len a\r",
-        ],
-    ),
-    (
-        BadLine::Name,
-        [
-            "cat a .b",
-            "cat .a b",
-            "copy a ",
-            "cut a 0 2 .b",
-            "cut -a 9 2 b",
-            "mark é",
-            "star ",
-        ],
-    ),
-    (
-        BadLine::Name,
-        [
-            "set .x 0 t",
-            "put  0 t",
-            "del .x 0 1",
-            "show \t 0 1",
-            "back ",
-            "unmark .",
-            "drop -",
-        ],
-    ),
-    (
-        BadLine::Name,
-        [
-            "same b .", "same . b", "eqv v ", "eqv -v w", "save a/b", "load a/b", "load s\r",
-        ],
-    ),
+// Words that are none, and a wrong number of pieces.
+const NO_WORDS: [&str; 21] = [
+    "",
+    " ",
+    "hello",
+    "New a",
+    " new a",
+    "new\u{a0}a",
+    "sames",
+    "new",
+    "new a ",
+    "new a b",
+    "new  a",
+    "add",
+    "add a",
+    "len",
+    "len a ",
+    "list ",
+    "list a",
+    "list\r",
+    "quit ",
+    "quit a",
+    "quit\r",
 ];
 
 #[test]
-fn refuses_lines(rt: HostRuntime) {
-    for (want, lines) in REFUSED {
-        refuses(&rt, lines, want);
-    }
+fn refuses_what_is_no_word(rt: HostRuntime) {
+    refuses(&rt, &NO_WORDS, BadLine::Command);
 }
+
+// A wrong number of pieces.
+const WRONG_PIECES: [&str; 28] = [
+    "set a 0",
+    "put a",
+    "del a 0",
+    "del a 0 1 ",
+    "cat a",
+    "cat a b c",
+    "cut a 0 2",
+    "cut a 0 2 b ",
+    "copy  a b",
+    "drop",
+    "star",
+    "undo ",
+    "end x",
+    "show a 1",
+    "same b",
+    "same b c d",
+    "eqv v",
+    "eqv v w ",
+    "stats x",
+    "save",
+    "load s t",
+    "stats ",
+    "stats\r",
+    "made x",
+    "made ",
+    "made\r",
+    "Made",
+    "mades",
+];
+
+#[test]
+fn refuses_a_wrong_number_of_pieces(rt: HostRuntime) {
+    refuses(&rt, &WRONG_PIECES, BadLine::Command);
+}
+
+// A number that doesn't read, also behind what is no name.
+const NO_NUMBERS: [&str; 21] = [
+    "get a",
+    "get a ",
+    "get a 01",
+    "get a 00",
+    "get a +1",
+    "get a -1",
+    "get a 1 ",
+    "get a  1",
+    "get a 1x",
+    "get a 1\r",
+    "get a 0 x",
+    "get .x 01",
+    "get .x",
+    "get  ",
+    "get a 4294967296",
+    "get a 10000000000",
+    "get a 1.0",
+    "get a é",
+    "len .x y",
+    "new .x ",
+    "list .x",
+];
+
+#[test]
+fn refuses_what_is_no_number(rt: HostRuntime) {
+    refuses(&rt, &NO_NUMBERS, BadLine::Command);
+}
+
+// The same and a wrong number of pieces at other commands.
+const MORE_COMMANDS: [&str; 21] = [
+    "cut .x 0 02 b",
+    "cut a 0 -1 .x",
+    "del a 00 1",
+    "show a 0 1x",
+    "set a 01 t",
+    "put .x x t",
+    "set a  t",
+    "merge",
+    "merge v w",
+    "starmerge v ",
+    "starless",
+    "indent u 2",
+    "indent 01 u",
+    "dedent 1",
+    "part",
+    "part s",
+    "part s 01",
+    "chain s 1 ",
+    "chain .s x",
+    "chain 1 s",
+    "part s 4294967296",
+];
+
+#[test]
+fn refuses_such_pieces_elsewhere(rt: HostRuntime) {
+    refuses(&rt, &MORE_COMMANDS, BadLine::Command);
+}
+
+// A name that is none.
+const NO_NAMES: [&str; 21] = [
+    "merge .v",
+    "starmerge ",
+    "starboth -v",
+    "starless é",
+    "indent 2 .u",
+    "dedent 2 ",
+    "indent 2 a/b",
+    "part .s 1",
+    "chain -s 1",
+    "part abcdefghijklmnopqrstuvwxyzABCDEFGHIJKLMNOPQRSTUVWXYZ0123456789. 1",
+    "chain abcdefghijklmnopqrstuvwxyzABCDEFGHIJKLMNOPQRSTUVWXYZ0123456789 10",
+    "part abcdefghijklmnopqrstuvwxyzABCDEFGHIJKLMNOPQRSTUVWXYZ0123456789._ 1",
+    "chain abcdefghijklmnopqrstuvwxyzABCDEFGHIJKLMNOPQRSTUVWXYZ01234567 1000",
+    "part abcdefghijklmnopqrstuvwxyzABCDEFGHIJKLMNOPQRSTUVWXYZ012345678 100",
+    "new .x",
+    "new -x",
+    "new ",
+    "new a\r",
+    "new é",
+    "new a/b",
+    NEW_LONGER,
+];
+
+#[test]
+fn refuses_what_is_no_name(rt: HostRuntime) {
+    refuses(&rt, &NO_NAMES, BadLine::Name);
+}
+
+// The same at other commands.
+const MORE_NAMES: [&str; 28] = [
+    "add .x hello",
+    "add  x",
+    "add a\r x",
+    "get .x 0",
+    "get  0",
+    "len .x",
+    "len a\r",
+    "cat a .b",
+    "cat .a b",
+    "copy a ",
+    "cut a 0 2 .b",
+    "cut -a 9 2 b",
+    "mark é",
+    "star ",
+    "set .x 0 t",
+    "put  0 t",
+    "del .x 0 1",
+    "show \t 0 1",
+    "back ",
+    "unmark .",
+    "drop -",
+    "same b .",
+    "same . b",
+    "eqv v ",
+    "eqv -v w",
+    "save a/b",
+    "load a/b",
+    "load s\r",
+];
+
+#[test]
+fn refuses_such_names_elsewhere(rt: HostRuntime) {
+    refuses(&rt, &MORE_NAMES, BadLine::Name);
+}
+
+// Lines that are no text.
+const NO_TEXT: [&[u8]; 7] = [
+    b"\xff",
+    b"add a \xff",
+    b"new \xff",
+    b"hello \xff",
+    b"get .x \xc3",
+    b"list \xed\xa0\x80",
+    b"\xc0\xaf new a",
+];
 
 #[test]
 fn refuses_bytes_first(rt: HostRuntime) {
-    let rows: [&[u8]; 7] = [
-        b"\xff",
-        b"add a \xff",
-        b"new \xff",
-        b"hello \xff",
-        b"get .x \xc3",
-        b"list \xed\xa0\x80",
-        b"\xc0\xaf new a",
-    ];
-    for (i, line) in rows.into_iter().enumerate() {
-        match read(&rt, line) {
-            Ok(_) => panic!(rt; "a command in row {i}"),
-            Err(bad) => assert_eq!(rt; bad, BadLine::Utf8, "in row {i}"),
-        }
+    for line in NO_TEXT {
+        assert!(rt; read(&rt, line).err() == Some(BadLine::Utf8), "at {line:?}");
     }
 }
