@@ -2,6 +2,7 @@ pub mod Places
 pub mod Joined
 pub mod Sums
 pub mod Steps
+pub mod Valued
 pub mod Loaded
 pub mod Released
 pub mod VectorTexts

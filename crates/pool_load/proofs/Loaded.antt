@@ -17,11 +17,12 @@ use Rattle.rrb_core.specs.Seq.{form_height}
 use Rattle.rrb_core.specs.Vector.{HasSums, height_at, HaveSums}
 use Rattle.rrb_core.proofs.LinkCounts.{count-at}
 use Rattle.rrb_core.proofs.Stays.{live-stays-by, sums-stay}
-use Rattle.pool_order.specs.Order.{places, order}
+use Rattle.pool_order.specs.Order.{places, order, order_of}
 use Rattle.pool_order.proofs.Places.{flat_map-found, places-reached, order-deep}
 use Rattle.pool_text.specs.Rows.{Bytes}
 use Rattle.pool_text.specs.Pool.{forms_in, row_count, place_in, relink, settings_of, text_form, text_forms, pool_at}
 use Rattle.pool_text.specs.declared.pool.Pool.{Pool}
+use Rattle.pool_text.proofs.Gathered.{order-by-text}
 use Rattle.pool_text.proofs.Held.{rooted-heap}
 use Rattle.pool_text.proofs.Placed.{place-is}
 use Rattle.pool_text.proofs.Renamed.{map-found, count-map, links-relink}
@@ -31,9 +32,9 @@ use Rattle.pool_text.specs.Rules.{present_rules}
 use Rattle.pool_check.specs.Damages.{HasValidRows}
 use Rattle.pool_check.specs.Checked.{HasCheckedRows}
 use Rattle.pool_check.proofs.TestLemmas.{and-first, leads-down, roots-low}
-use Rattle.pool_load.specs.Loads.{cells_of, nodes_of, Loads, AreRowsLoaded}
+use Rattle.pool_load.specs.Loads.{cells_of, nodes_of, Loads, AreRowsLoaded, AreValuedByPlace}
 use Rattle.pool_load.specs.Rows.{AreSound}
-use Rattle.pool_load.specs.Making.{ArePlacesBelow, AreMade, GivesUp, AreReachedWithout}
+use Rattle.pool_load.specs.Making.{ArePlacesBelow, AreMade, AreValued, GivesUp, AreReachedWithout}
 use Rattle.pool_check.proofs.OwnRows.{in-order, reached-low, own-order, one-place, pool-of-rows}
 use Rattle.pool_load.proofs.Places.{below-all}
 use Rattle.pool_text.proofs.Ordered.{order-renamed}
@@ -216,6 +217,14 @@ module _ {T : Type 0} (text : T → Bytes) (h : Heap T) (P : Pool) (v : HasValid
       pool-of-rows G links P
       (record { many = is.many; forms = is.forms; once = is.once; there = λ k has. some-map (text_form text) (row_at h k) (is.live k has) }) v.passed.lead_back
       (length h.rows) listed
+
+  links-listed : order_of h root_links ≡ links
+  links-listed = sym (order-by-text text h root_links) ∙ listed
+
+  pub are-valued : (value : ℕ → Bytes → T) → AreValued text value h links → AreValuedByPlace text value h root_links
+  are-valued value valued l x some is =
+      let at = place-is links l (omega (arith, some, ap (count l) links-listed)) in
+      valued (place_in links l) at.0 x (ap (row_at h) at.1 ∙ is) ∙ ap (λ (ks : List ℕ). value (place_in ks l) (text x)) (sym links-listed)
 
   pub are-loaded : HasCheckedRows P → AreRowsLoaded text h root_links P
   are-loaded checked = record { graph = is.graph; live = root-live; checked = checked; pool = pool-loaded; sums = sums-loaded }

@@ -72,7 +72,7 @@ module _ {T : Type 0} (text : T → Bytes) (f : ℕ → ℕ) where
       by_kind state = refl
 
 -- ways down in renamed rows are ways down
-ways-renamed : {K : Type 0} (f : ℕ → ℕ) (G H : Forms K) (l m : ℕ) → Reaches (links_in G) l m → IsRenamed f G H l → Reaches (links_in H) (f l) (f m)
+pub ways-renamed : {K : Type 0} (f : ℕ → ℕ) (G H : Forms K) (l m : ℕ) → Reaches (links_in G) l m → IsRenamed f G H l → Reaches (links_in H) (f l) (f m)
 ways-renamed f G H a b (here l) image = here (f l)
 ways-renamed f G H a b (below l k m has down) image =
     below (f l) (f k) (f m) (omega (arith, ap (count (f k)) (renamed-links f G H l image), count-map f k (links_in G l) has))

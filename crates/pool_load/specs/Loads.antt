@@ -1,11 +1,12 @@
 -- What a load does to a heap, and what its roots are.
 use Rattle.std.specs.Prelude.{◌≡◌, ℕ, ◌+◌, ◌-◌, ◌^◌, ◌<◌, List, length, Some, None, min, sum_by}
 use Rattle.node_heap.specs.Links.{count, Reaches}
-use Rattle.node_heap.specs.Forms.{Form, is_cell, is_node}
+use Rattle.node_heap.specs.Forms.{Form, cell, is_cell, is_node}
 use Rattle.node_heap.specs.Heap.{Heap, row_at, links_at, holds_at, hold_count, live_count, cell_count, node_count, IsGraph}
 use Rattle.node_heap.specs.Calls.{Extends, Balances}
+use Rattle.pool_order.specs.Order.{order_of}
 use Rattle.pool_text.specs.Rows.{Bytes}
-use Rattle.pool_text.specs.Pool.{row_count, settings_of, pool_at}
+use Rattle.pool_text.specs.Pool.{row_count, place_in, settings_of, pool_at}
 use Rattle.pool_text.specs.Renaming.{AreLive}
 use Rattle.pool_text.specs.declared.pool.Pool.{Pool}
 use Rattle.pool_check.specs.Checked.{IsChecked, HasCheckedRows}
@@ -48,3 +49,7 @@ module _ {T : Type 0} where
   -- it passed those of its rows, whatever its roots are
   abbrev pub AreRowsLoaded : (T → Bytes) → Heap T → List ℕ → Pool → Type 0
   AreRowsLoaded text h roots P = AreLoadedBy HasCheckedRows text h roots P
+
+  -- the value of each cell that the roots reach is the one that is made of its place in their pool and its text
+  abbrev pub AreValuedByPlace : (T → Bytes) → (ℕ → Bytes → T) → Heap T → List ℕ → Type 0
+  AreValuedByPlace text value h roots = (l : ℕ) (x : T) → 0 < count l (order_of h roots) → row_at h l ≡ Some (cell x) → x ≡ value (place_in (order_of h roots) l) (text x)

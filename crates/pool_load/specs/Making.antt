@@ -2,7 +2,7 @@
 use Rattle.std.specs.Prelude.{◌≡◌, ◌≢◌, ℕ, ◌+◌, ◌-◌, ◌^◌, ◌<◌, ◌≤◌, true, List, length, take, Some, None, IsSome, option_map, slice_get, slice_index, nat_lt}
 use Rattle.std.specs.List.{list_all}
 use Rattle.node_heap.specs.Links.{count, IsReached}
-use Rattle.node_heap.specs.Forms.{Row, Form, links_of, is_cell, is_node}
+use Rattle.node_heap.specs.Forms.{Row, Form, cell, links_of, is_cell, is_node}
 use Rattle.node_heap.specs.Heap.{Heap, row_at, links_at, holds_at, hold_count, cell_count, node_count, live_count, one_at, HasSpares, IsGraph, most_holds}
 use Rattle.node_heap.specs.Calls.{SameRows, Extends, Makes}
 use Rattle.rrb_core.specs.Vector.{row_sums, HasSums}
@@ -62,6 +62,15 @@ module _ {T : Type 0} where
     pub makes : Makes old new (cells_of (take (length links) rows)) (nodes_of (take (length links) rows))
     pub graph : IsGraph new
     pub extends : Extends old new
+
+  module _ (text : T → Bytes) where
+    -- a cell at the link has the value that is made of its text
+    abbrev pub IsValued : (Bytes → T) → Heap T → ℕ → Type 0
+    IsValued value h l = (x : T) → row_at h l ≡ Some (cell x) → x ≡ value (text x)
+
+    -- so it is of each of these links, by its place among them
+    abbrev pub AreValued : (ℕ → Bytes → T) → Heap T → List ℕ → Type 0
+    AreValued value h links = (p : ℕ) → p < length links → IsValued (value p) h (slice_index links p)
 
   -- the holds of these links were given up, and nothing else has changed
   pub record GivesUp (old new : Heap T) (links : List ℕ) : Type 0 where

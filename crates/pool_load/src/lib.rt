@@ -8,9 +8,11 @@ mod laws;
 mod lengths;
 mod loading;
 mod rows;
+mod values;
 
 pub use laws::{
     loaded_roots_are_of_kinds, loaded_roots_fit, loaded_roots_have_rows, loaded_rows_are_listed,
     loaded_tries_are_good, loaded_vectors_are_good,
 };
-pub use loading::{load, load_roots};
+pub use loading::{load, load_roots, load_roots_by};
+pub use values::{CellValues, OwnValues};

@@ -5,11 +5,12 @@ ghost use Rattle.node_heap.specs.Links.{count};
 ghost use Rattle.node_heap.specs.Heap.{holds_at, hold_count, IsGraph, half_holds, quarter_holds};
 ghost use Rattle.node_heap.specs.Calls.{KeepsToNeed};
 ghost use Rattle.pool_text.specs.Rows.{row_form};
-ghost use Rattle.pool_load.specs.Loads.{Loads, AreLoaded, AreRowsLoaded, cells_of, nodes_of};
+ghost use Rattle.pool_load.specs.Loads.{Loads, AreLoaded, AreRowsLoaded, AreValuedByPlace, cells_of, nodes_of};
 ghost use Rattle.pool_load.specs.Making.{ArePlacesBelow, AreReachedWithout, GivesUp};
 
 use crate::lengths::lengths_of;
 use crate::rows::{hold_places, make_rows};
+use crate::values::{CellValues, OwnValues};
 use elem_core::{NoMemory, Stored};
 use node_heap::{Heap, Link};
 use pool_check::{Checked, CheckedRoots};
@@ -49,6 +50,26 @@ pub fn load_roots<T: Stored>(
     ensures spares { OnOk result (KeepsToNeed heap.old heap.new (cells_of checked.rows) (nodes_of checked.rows)) }
     ensures refused { OnErr result (heap.new ≡ heap.old) }
 {
+    load_roots_by(alloc, heap, checked, &OwnValues)
+}
+
+/// The same of a heap of other values, where a cell's value is made of its place and its text. The texts of the values are those of
+/// the pool, which was checked for texts that `S` stores.
+pub fn load_roots_by<S: Stored, T: Drop, C: CellValues<T>>(
+    alloc: Global,
+    heap: &mut Heap<T>,
+    checked: CheckedRoots<S>,
+    values: &C,
+) -> Result<Vec<Link>, NoMemory>
+    requires few { hold_count heap.old < half_holds }
+    requires few_roots { length checked.roots < quarter_holds }
+    ensures loads { IfOk result (λ roots. Loads heap.old heap.new roots.items checked) }
+    ensures loaded { IfOk result (λ roots. AreRowsLoaded C.bytes_of heap.new roots.items checked) }
+    ensures valued { IfOk result (λ roots. AreValuedByPlace C.bytes_of (C.value_at values.now) heap.new roots.items) }
+    ensures roots { IfOk result (λ roots. length roots.items ≡ length checked.roots) }
+    ensures spares { OnOk result (KeepsToNeed heap.old heap.new (cells_of checked.rows) (nodes_of checked.rows)) }
+    ensures refused { OnErr result (heap.new ≡ heap.old) }
+{
     heap.rows_form_a_graph();
     let pool = checked.pool();
     let rows = pool.rows.as_slice();
@@ -63,7 +84,13 @@ pub fn load_roots<T: Stored>(
         roots: places,
         ..
     } = checked.into_pool();
-    make_rows(heap, rows.into_vec(), lengths.as_slice(), &mut links);
+    make_rows(
+        heap,
+        values,
+        rows.into_vec(),
+        lengths.as_slice(),
+        &mut links,
+    );
     hold_places(heap, links.as_slice(), places.as_slice());
     put_links(&mut roots, links.as_slice(), places.as_slice());
     release_all(heap, links.as_slice());

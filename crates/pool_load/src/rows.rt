@@ -8,17 +8,18 @@ ghost use Rattle.pool_text.specs.Rows.{row_form};
 ghost use Rattle.pool_text.specs.Renaming.{AreLive};
 ghost use Rattle.pool_load.specs.Loads.{cells_of, nodes_of};
 ghost use Rattle.pool_load.specs.Rows.{AreSound, HaveLengths};
-ghost use Rattle.pool_load.specs.Making.{ArePlacesBelow, ComesBeside, CanMake, MakesPoolRow, AreMade};
+ghost use Rattle.pool_load.specs.Making.{ArePlacesBelow, ComesBeside, CanMake, MakesPoolRow, AreMade, IsValued, AreValued};
 
 use crate::lengths::inner_sums;
+use crate::values::CellValues;
 use arrayvec::ArrayVec;
-use elem_core::Stored;
 use node_heap::{Head, Heap, Link};
 use pool_text::Row;
 
 // Makes a row for each of these, each held once, and appends its link. There is room for all links.
-pub(crate) fn make_rows<T: Stored>(
+pub(crate) fn make_rows<T, C: CellValues<T>>(
     heap: &mut Heap<T>,
+    values: &C,
     rows: Vec<Row>,
     lengths: &[u32],
     links: &mut Vec<Link>,
@@ -31,25 +32,30 @@ pub(crate) fn make_rows<T: Stored>(
     requires spares { HasSpares heap.old (cells_of (map row_form rows.items)) (nodes_of (map row_form rows.items)) }
     requires few { hold_count heap.old + (length rows.items + 32) < most_holds }
     requires graph { IsGraph heap.old }
-    ensures made { AreMade T.bytes_of heap.old heap.new (map row_form rows.items) links.new.items }
+    ensures made { AreMade C.bytes_of heap.old heap.new (map row_form rows.items) links.new.items }
+    ensures valued { AreValued C.bytes_of (C.value_at values.now) heap.new links.new.items }
     ensures many { length links.new.items ≡ length rows.items }
 {
     for row in rows {
-        let link = make_row(heap, links.as_slice(), lengths, row);
+        let link = make_row(heap, values, links.as_slice(), lengths, row);
         links.push_reserved(link);
     }
 }
 
 // Makes the row, over rows with these links and lengths by place. It is held once.
-fn make_row<T: Stored>(heap: &mut Heap<T>, links: &[Link], lengths: &[u32], row: Row) -> Link
+fn make_row<T, C: CellValues<T>>(
+    heap: &mut Heap<T>,
+    values: &C,
+    links: &[Link],
+    lengths: &[u32],
+    row: Row,
+) -> Link
     requires { CanMake heap.old links.now lengths.now (row_form row) }
-    ensures { MakesPoolRow T.bytes_of heap.old heap.new links.now lengths.now (row_form row) result }
+    ensures made { MakesPoolRow C.bytes_of heap.old heap.new links.now lengths.now (row_form row) result }
+    ensures valued { IsValued C.bytes_of (C.value_at values.now (length links.now)) heap.new result }
 {
     match row {
-        Row::Cell(text) => match T::from_text(text.into_text()) {
-            Ok(value) => heap.cell(value),
-            Err(_) => unreachable!(),
-        },
+        Row::Cell(text) => heap.cell(values.value(links.len(), text.into_text())),
         Row::Leaf(places) => make_node(heap, links, Head::Leaf, places.as_slice()),
         Row::Inner(height, places) => {
             let sums = inner_sums(lengths, places.as_slice(), height - 1);

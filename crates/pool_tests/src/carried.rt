@@ -2,10 +2,10 @@
 ghost use Rattle.std.specs.Prelude.{◌≤◌};
 ghost use Rattle.elem_core.specs.declared.codes.TheConstants.{CODE_BITS};
 
-use crate::documents::{old_pool, present_pool};
+use crate::documents::{checked_again, old_pool};
 use elem_core::{CODE_BITS, Text};
 use pool_carry::carry;
-use pool_check::{Checked, Old, check, check_old};
+use pool_check::{Old, check_old};
 use pool_text::{Damage, to_bytes};
 use std::alloc::Global;
 use std::test::Fail;
@@ -58,25 +58,23 @@ fn checked_old(alloc: Global, bytes: &[u8], bits: u32) -> Result<Old, Damage>
     check_old::<Text>(alloc, old_pool(alloc, bytes, bits)?)
 }
 
-#[test]
-fn carries_documents(rt: HostRuntime) -> Result<(), Fail> {
-    for (bits, bytes, new) in CARRIED {
-        assert!(rt; bits <= CODE_BITS);
-        let old = checked_old(rt.alloc(), bytes, bits)?;
-        let carried = carry(rt.alloc(), old, bits)?;
-        assert_eq!(rt; to_bytes(rt.alloc(), &carried)?.as_slice(), new);
-    }
-    Ok(())
+// The document that such a pool is carried to.
+fn carried(alloc: Global, bytes: &[u8], bits: u32) -> Result<Vec<u8>, Damage>
+    requires { bits ≤ CODE_BITS }
+{
+    let pool = carry(alloc, checked_old(alloc, bytes, bits)?, bits)?;
+    Ok(to_bytes(alloc, &pool)?)
 }
 
 // What they are carried to is read and passes the tests of today, and is written as it is.
 #[test]
-fn carried_documents_pass(rt: HostRuntime) -> Result<(), Fail> {
-    for (bits, _, new) in CARRIED {
+fn carries_documents(rt: HostRuntime) -> Result<(), Fail> {
+    for (bits, bytes, new) in CARRIED {
         assert!(rt; bits <= CODE_BITS);
-        let pool = present_pool(rt.alloc(), new, bits)?;
-        let checked: Checked<Text> = check(rt.alloc(), pool)?;
-        assert_eq!(rt; to_bytes(rt.alloc(), checked.pool())?.as_slice(), new);
+        let text = carried(rt.alloc(), bytes, bits)?;
+        assert!(rt; text.as_slice() == new, "by {bits}");
+        let again = checked_again(rt.alloc(), new, bits)?;
+        assert!(rt; again.as_slice() == new, "by {bits}");
     }
     Ok(())
 }
@@ -89,19 +87,20 @@ const OLD: &[u8] =
 const WRITTEN: &[u8] =
     b"{\"bits\":7,\"format\":\"ewig-pool\",\"history\":4294967295,\"roots\":[1,0,2,2],\"rows\":[[\"m\",0,0,0,[]],[\"s\",[0,0]],[\"l\",[]]],\"version\":3}";
 
-// A pool is lent as it was.
-#[test]
-fn lends_an_old_pool(rt: HostRuntime) -> Result<(), Fail> {
-    let old = checked_old(rt.alloc(), OLD, 7)?;
-    assert_eq!(rt; to_bytes(rt.alloc(), old.pool())?.as_slice(), WRITTEN);
-    Ok(())
+// The documents of such a pool of seven bits where it is lent, and where it is given back.
+fn lent_and_given(alloc: Global, bytes: &[u8]) -> Result<(Vec<u8>, Vec<u8>), Damage> {
+    let old = checked_old(alloc, bytes, 7)?;
+    let lent = to_bytes(alloc, old.pool())?;
+    let given = to_bytes(alloc, &old.into_pool())?;
+    Ok((lent, given))
 }
 
-// It is given back as it was.
+// A pool is lent and given back as it was.
 #[test]
-fn gives_an_old_pool_back(rt: HostRuntime) -> Result<(), Fail> {
-    let pool = checked_old(rt.alloc(), OLD, 7)?.into_pool();
-    assert_eq!(rt; to_bytes(rt.alloc(), &pool)?.as_slice(), WRITTEN);
+fn lends_an_old_pool(rt: HostRuntime) -> Result<(), Fail> {
+    let (lent, given) = lent_and_given(rt.alloc(), OLD)?;
+    assert!(rt; lent.as_slice() == WRITTEN);
+    assert!(rt; given.as_slice() == WRITTEN);
     Ok(())
 }
 
@@ -131,12 +130,9 @@ const DAMAGED: [(&[u8], Damage); 5] = [
 ];
 
 #[test]
-fn tells_the_damage_of_old_documents(rt: HostRuntime) -> Result<(), Fail> {
+fn tells_the_damage_of_old_documents(rt: HostRuntime) {
     for (bytes, damage) in DAMAGED {
-        assert_eq!(rt;
-            checked_old(rt.alloc(), bytes, CODE_BITS).err(),
-            Some(damage)
-        );
+        let answer = checked_old(rt.alloc(), bytes, CODE_BITS);
+        assert!(rt; answer.err() == Some(damage), "{damage:?}");
     }
-    Ok(())
 }

@@ -8,7 +8,9 @@ ghost use Rattle.pool_text.specs.Document.{HistoryFitsVersion};
 ghost use Rattle.pool_text.specs.declared.rules.TheConstants.{FIRST_VERSION, FIRST_CODE_BITS};
 ghost use Rattle.pool_check.specs.Rows.{rows_in_range_by};
 
-use pool_text::{Damage, FIRST_VERSION, Pool, pool_from_bytes};
+use elem_core::Text;
+use pool_check::{Checked, check};
+use pool_text::{Damage, FIRST_VERSION, Pool, pool_from_bytes, to_bytes};
 use std::alloc::Global;
 
 /// The pool of the rows of a document of version 2 or 3, in a space of so many bits, or what is wrong with it: `Version` where it is
@@ -27,6 +29,14 @@ pub fn present_pool(alloc: Global, bytes: &[u8], bits: u32) -> Result<Pool, Dama
     } else {
         Ok(pool)
     }
+}
+
+/// The document that is written of such a pool that passes the tests, or what is wrong with it.
+pub fn checked_again(alloc: Global, bytes: &[u8], bits: u32) -> Result<Vec<u8>, Damage>
+    requires { bits ≤ CODE_BITS }
+{
+    let checked: Checked<Text> = check(alloc, present_pool(alloc, bytes, bits)?)?;
+    Ok(to_bytes(alloc, checked.pool())?)
 }
 
 /// The same of a document of version 1: `Version` where it is a later one.

@@ -2,13 +2,13 @@
 ghost use Rattle.std.specs.Prelude.{◌<◌};
 ghost use Rattle.std.specs.List.{All};
 
-use crate::documents::present_pool;
-use elem_core::{CODE_BITS, Text};
+use crate::documents::{checked_again, present_pool};
+use crate::roots::saved;
+use elem_core::{CODE_BITS, NoMemory, Text};
 use node_heap::Heap;
 use pool_check::{Checked, check};
 use pool_load::{load, loaded_rows_are_listed, loaded_tries_are_good, loaded_vectors_are_good};
-use pool_order::order;
-use pool_text::{Damage, MOST_HISTORY, pool_of, pool_of_rows, to_bytes};
+use pool_text::{Damage, MOST_HISTORY, pool_of_rows, to_bytes};
 use std::alloc::Global;
 use std::process::Abort;
 use std::test::Fail;
@@ -47,21 +47,45 @@ const WHOLE: [(&[u8], usize); 6] = [
     ),
 ];
 
+// What a document becomes that is loaded and written again.
+#[derive(Drop)]
+struct Again {
+    text: Vec<u8>,
+    roots: usize,
+    live: usize,
+    made: u64,
+}
+
+// The document of what the rows of a checked document are once they are loaded, how many roots and rows there are, and how many rows
+// were ever made.
+fn loaded_again(alloc: Global, document: Checked<Text>) -> Result<Again, NoMemory> {
+    let history = document.pool().history;
+    let mut heap: Heap<Text> = Heap::new(alloc);
+    let roots = load(alloc, &mut heap, document)?;
+    let text = saved(alloc, &heap, &roots, history)?;
+    Ok(Again {
+        text,
+        roots: roots.len(),
+        live: heap.live(),
+        made: heap.made(),
+    })
+}
+
 #[test]
 fn checks_and_loads_whole_documents(rt: HostRuntime) -> Result<(), Fail> {
     for (bytes, rows) in WHOLE {
-        let mut heap: Heap<Text> = Heap::new(rt.alloc());
         let document = checked(rt.alloc(), bytes)?;
-        let history = document.pool().history;
-        let roots = load(rt.alloc(), &mut heap, document)?;
-        assert_eq!(rt; roots.len(), 4);
-        assert_eq!(rt; heap.live(), rows);
-        assert_eq!(rt; heap.made(), rows as u64);
-        let listed = order(rt.alloc(), &heap, &roots)?;
-        let pool = pool_of(rt.alloc(), &heap, &listed, &roots, CODE_BITS, history)?;
-        assert_eq!(rt; to_bytes(rt.alloc(), &pool)?.as_slice(), bytes);
+        let again = loaded_again(rt.alloc(), document)?;
+        assert!(rt; again.roots == 4 && again.live == rows && again.made == rows as u64);
+        assert!(rt; again.text.as_slice() == bytes);
     }
     Ok(())
+}
+
+// The version of a checked document, and how many states it keeps.
+fn version_and_history(alloc: Global, bytes: &[u8]) -> Result<(u32, u32), Damage> {
+    let document = checked(alloc, bytes)?;
+    Ok((document.pool().version, document.pool().history))
 }
 
 // A document of version 2, which says no history, is checked as it is, and written as one of version 3 with the greatest.
@@ -71,11 +95,10 @@ fn checks_a_document_of_the_second_version(rt: HostRuntime) -> Result<(), Fail> 
         b"{\"bits\":64,\"format\":\"ewig-pool\",\"roots\":[2,3,4,5],\"rows\":[[\"m\",0,0,0,[]],[\"m\",0,0,0,[]],[\"s\",[0,1]],[\"m\",0,0,0,[]],[\"l\",[2]],[\"l\",[]]],\"version\":2}";
     let third =
         b"{\"bits\":64,\"format\":\"ewig-pool\",\"history\":4294967295,\"roots\":[2,3,4,5],\"rows\":[[\"m\",0,0,0,[]],[\"m\",0,0,0,[]],[\"s\",[0,1]],[\"m\",0,0,0,[]],[\"l\",[2]],[\"l\",[]]],\"version\":3}";
-    let document = checked(rt.alloc(), second.as_slice())?;
-    let pool = document.pool();
-    assert_eq!(rt; pool.version, 2);
-    assert_eq!(rt; pool.history, MOST_HISTORY);
-    assert_eq!(rt; to_bytes(rt.alloc(), pool)?.as_slice(), third.as_slice());
+    let (version, history) = version_and_history(rt.alloc(), second.as_slice())?;
+    assert!(rt; version == 2 && history == MOST_HISTORY);
+    let text = checked_again(rt.alloc(), second.as_slice(), CODE_BITS)?;
+    assert!(rt; text.as_slice() == third.as_slice());
     Ok(())
 }
 
@@ -155,22 +178,28 @@ const DAMAGED: [(&[u8], Damage); 17] = [
 ];
 
 #[test]
-fn tells_the_damage_of_others(rt: HostRuntime) -> Result<(), Fail> {
+fn tells_the_damage_of_others(rt: HostRuntime) {
     for (bytes, damage) in DAMAGED {
-        assert_eq!(rt; checked(rt.alloc(), bytes).err(), Some(damage));
+        let answer = checked_again(rt.alloc(), bytes, CODE_BITS);
+        assert!(rt; answer.err() == Some(damage), "{damage:?}");
     }
-    Ok(())
 }
 
 // By five bits `A` and `a` have one code, and `A` is the smaller. So what fails is that the chain goes on in a trie row.
 #[test]
-fn tells_the_damage_of_a_chain_over_a_trie_row(rt: HostRuntime) -> Result<(), Fail> {
+fn tells_the_damage_of_a_chain_over_a_trie_row(rt: HostRuntime) {
     let bytes =
         b"{\"bits\":5,\"format\":\"ewig-pool\",\"history\":4294967295,\"roots\":[3,3,3,3],\"rows\":[[\"c\",\"A\"],[\"c\",\"a\"],[\"m\",0,4096,0,[1]],[\"k\",[0,2]]],\"version\":3}";
-    let pool = present_pool(rt.alloc(), bytes.as_slice(), 5)?;
-    let answer: Result<Checked<Text>, Damage> = check(rt.alloc(), pool);
-    assert_eq!(rt; answer.err(), Some(Damage::Trie));
-    Ok(())
+    assert!(rt; present_pool(rt.alloc(), bytes.as_slice(), 5).is_ok());
+    let answer = checked_again(rt.alloc(), bytes.as_slice(), 5);
+    assert!(rt; answer.err() == Some(Damage::Trie));
+}
+
+// How many owners the first two roots of a document have once it is loaded.
+fn owners_of_roots(alloc: Global, bytes: &[u8]) -> Result<(usize, usize), Damage> {
+    let mut heap: Heap<Text> = Heap::new(alloc);
+    let roots = load(alloc, &mut heap, checked(alloc, bytes)?)?;
+    Ok((heap.owners(roots[0]), heap.owners(roots[1])))
 }
 
 // A state that stands in undo too is one row, with two owners.
@@ -178,14 +207,8 @@ fn tells_the_damage_of_a_chain_over_a_trie_row(rt: HostRuntime) -> Result<(), Fa
 fn loads_a_shared_state(rt: HostRuntime) -> Result<(), Fail> {
     let bytes =
         b"{\"bits\":64,\"format\":\"ewig-pool\",\"history\":4294967295,\"roots\":[2,3,4,5],\"rows\":[[\"m\",0,0,0,[]],[\"m\",0,0,0,[]],[\"s\",[0,1]],[\"m\",0,0,0,[]],[\"l\",[2]],[\"l\",[]]],\"version\":3}";
-    let mut heap: Heap<Text> = Heap::new(rt.alloc());
-    let roots = load(
-        rt.alloc(),
-        &mut heap,
-        checked(rt.alloc(), bytes.as_slice())?,
-    )?;
-    assert_eq!(rt; heap.owners(roots[0]), 2);
-    assert_eq!(rt; heap.owners(roots[1]), 1);
+    let (first, second) = owners_of_roots(rt.alloc(), bytes.as_slice())?;
+    assert!(rt; first == 2 && second == 1);
     Ok(())
 }
 
@@ -230,14 +253,20 @@ fn places_below(rt: &impl Abort, alloc: Global, places: &[u64], count: u64) -> V
     below
 }
 
+// The document of the rows at these places of a checked one, and of what they reach.
+fn gathered(rt: &impl Abort, alloc: Global, places: &[u64]) -> Result<Vec<u8>, Damage> {
+    let shared = checked(alloc, SHARED)?;
+    let rows = &shared.pool().rows;
+    let roots = places_below(rt, alloc, places, rows.as_slice().len() as u64);
+    let pool = pool_of_rows(alloc, rows, &roots, CODE_BITS, MOST_HISTORY)?;
+    Ok(to_bytes(alloc, &pool)?)
+}
+
 #[test]
 fn gathers_rows_of_a_list(rt: HostRuntime) -> Result<(), Fail> {
-    let shared = checked(rt.alloc(), SHARED)?;
-    let rows = &shared.pool().rows;
     for (places, bytes) in GATHERED {
-        let roots = places_below(&rt, rt.alloc(), places, rows.as_slice().len() as u64);
-        let pool = pool_of_rows(rt.alloc(), rows, &roots, CODE_BITS, MOST_HISTORY)?;
-        assert_eq!(rt; to_bytes(rt.alloc(), &pool)?.as_slice(), bytes);
+        let text = gathered(&rt, rt.alloc(), places)?;
+        assert!(rt; text.as_slice() == bytes);
     }
     Ok(())
 }

@@ -38,12 +38,25 @@ const INDENTED: [(&[u8], u64, &[u8]); 3] = [
     ),
 ];
 
+// The document with so many spaces before each line.
+fn indented_text(alloc: Global, bytes: &[u8], spaces: u64) -> Result<Vec<u8>, Fail> {
+    let pool = valid_pool(alloc, bytes)?;
+    let mapped = indented(alloc, &pool, spaces)?;
+    Ok(to_bytes(alloc, &mapped)?)
+}
+
+// The document without so many spaces before each line.
+fn dedented_text(alloc: Global, bytes: &[u8], spaces: u64) -> Result<Vec<u8>, Fail> {
+    let pool = valid_pool(alloc, bytes)?;
+    let mapped = dedented(alloc, &pool, spaces)?;
+    Ok(to_bytes(alloc, &mapped)?)
+}
+
 #[test]
 fn puts_spaces_before_lines(rt: HostRuntime) -> Result<(), Fail> {
     for (bytes, spaces, new) in INDENTED {
-        let pool = valid_pool(rt.alloc(), bytes)?;
-        let mapped = indented(rt.alloc(), &pool, spaces)?;
-        assert_eq!(rt; to_bytes(rt.alloc(), &mapped)?.as_slice(), new);
+        let text = indented_text(rt.alloc(), bytes, spaces)?;
+        assert!(rt; text.as_slice() == new, "{spaces} spaces");
     }
     Ok(())
 }
@@ -52,9 +65,8 @@ fn puts_spaces_before_lines(rt: HostRuntime) -> Result<(), Fail> {
 #[test]
 fn takes_spaces_away_that_came_before(rt: HostRuntime) -> Result<(), Fail> {
     for (bytes, spaces, new) in &INDENTED[..2] {
-        let pool = valid_pool(rt.alloc(), new)?;
-        let mapped = dedented(rt.alloc(), &pool, spaces.saturating_add(3))?;
-        assert_eq!(rt; to_bytes(rt.alloc(), &mapped)?.as_slice(), *bytes);
+        let text = dedented_text(rt.alloc(), new, spaces.saturating_add(3))?;
+        assert!(rt; text.as_slice() == *bytes, "{spaces} spaces");
     }
     Ok(())
 }
@@ -74,26 +86,27 @@ fn takes_only_spaces_away(rt: HostRuntime) -> Result<(), Fail> {
             b"{\"bits\":64,\"format\":\"ewig-pool\",\"history\":4294967295,\"roots\":[9,10,11,12],\"rows\":[[\"c\",\"a\"],[\"c\",\"x \"],[\"c\",\"\\t y\"],[\"c\",\"\\t z\"],[\"c\",\"\"],[\"l\",[1,2,3,4]],[\"p\",[0,5]],[\"m\",0,4096,0,[6]],[\"m\",0,0,0,[]],[\"s\",[7,8]],[\"m\",0,0,0,[]],[\"l\",[]],[\"l\",[]]],\"version\":3}",
         ),
     ];
-    let pool = valid_pool(rt.alloc(), old.as_slice())?;
     for (spaces, bytes) in new {
-        let mapped = dedented(rt.alloc(), &pool, spaces)?;
-        assert_eq!(rt; to_bytes(rt.alloc(), &mapped)?.as_slice(), bytes);
+        let text = dedented_text(rt.alloc(), old.as_slice(), spaces)?;
+        assert!(rt; text.as_slice() == bytes, "{spaces} spaces");
     }
     Ok(())
+}
+
+// Why so many spaces don't go before the lines.
+fn indent_fault(alloc: Global, bytes: &[u8], spaces: u64) -> Result<Option<ChangeFault>, Damage> {
+    let pool = valid_pool(alloc, bytes)?;
+    Ok(indented(alloc, &pool, spaces).err())
 }
 
 // A line of one byte takes 65,535 spaces, and no more.
 #[test]
 fn refuses_lines_that_become_too_long(rt: HostRuntime) -> Result<(), Fail> {
-    let pool = valid_pool(rt.alloc(), INDENTED[1].0)?;
-    let mapped = indented(rt.alloc(), &pool, 65_535)?;
-    let read = valid_pool(rt.alloc(), to_bytes(rt.alloc(), &mapped)?.as_slice())?;
-    let back = dedented(rt.alloc(), &read, 65_535)?;
-    assert_eq!(rt; to_bytes(rt.alloc(), &back)?.as_slice(), INDENTED[1].0);
-    assert_eq!(rt;
-        indented(rt.alloc(), &pool, 65_536).err(),
-        Some(ChangeFault::Long)
-    );
+    let long = indented_text(rt.alloc(), INDENTED[1].0, 65_535)?;
+    let back = dedented_text(rt.alloc(), long.as_slice(), 65_535)?;
+    assert!(rt; back.as_slice() == INDENTED[1].0);
+    let fault = indent_fault(rt.alloc(), INDENTED[1].0, 65_536)?;
+    assert!(rt; fault == Some(ChangeFault::Long));
     Ok(())
 }
 
@@ -133,15 +146,20 @@ const MARKED: [(&[u8], u64, &[u8]); 2] = [
     ),
 ];
 
+// The document with its lines marked, and how many calls that took.
+fn with_marks(alloc: Global, bytes: &[u8]) -> Result<(Vec<u8>, u64), Fail> {
+    let pool = valid_pool(alloc, bytes)?;
+    let mut change = Marked { calls: 0 };
+    few_line_cells(&pool);
+    let mapped = map_cells(alloc, &pool, &mut change)?;
+    Ok((to_bytes(alloc, &mapped)?, change.calls))
+}
+
 #[test]
 fn changes_each_line_cell_once(rt: HostRuntime) -> Result<(), Fail> {
     for (bytes, calls, new) in MARKED {
-        let pool = valid_pool(rt.alloc(), bytes)?;
-        let mut change = Marked { calls: 0 };
-        few_line_cells(&pool);
-        let mapped = map_cells(rt.alloc(), &pool, &mut change)?;
-        assert_eq!(rt; change.calls, calls);
-        assert_eq!(rt; to_bytes(rt.alloc(), &mapped)?.as_slice(), new);
+        let (text, count) = with_marks(rt.alloc(), bytes)?;
+        assert!(rt; count == calls && text.as_slice() == new);
     }
     Ok(())
 }

@@ -6,6 +6,7 @@ use pool_text::{
     Damage, Places, Pool, PoolText, Row, Rows, into_bytes, pool_from_bytes, pool_from_json,
     pool_of, text_length, to_bytes, to_json,
 };
+use std::alloc::Global;
 use std::test::Fail;
 
 // A leaf of one cell, twice among the roots.
@@ -26,8 +27,7 @@ fn gathers_a_leaf_with_its_cell(rt: HostRuntime) -> Result<(), Fail> {
 }
 
 // A pool with a row of each kind.
-fn rows_of_each_kind(rt: &HostRuntime) -> Result<Pool, Fail> {
-    let alloc = rt.alloc();
+fn rows_of_each_kind(alloc: Global) -> Result<Pool, Fail> {
     let quotes = String::from_str(alloc, "a\"b\\c\td\u{1}\u{e9}")?;
     let mut rows = Vec::new(alloc);
     rows.push(Row::Cell(PoolText::from_text(quotes)))?;
@@ -51,30 +51,49 @@ fn rows_of_each_kind(rt: &HostRuntime) -> Result<Pool, Fail> {
     })
 }
 
+// Its document, and how long it is told to be.
+fn written(alloc: Global) -> Result<(Vec<u8>, u64), Fail> {
+    let pool = rows_of_each_kind(alloc)?;
+    Ok((to_bytes(alloc, &pool)?, text_length(&pool)))
+}
+
+// The same as a value of JSON that is printed.
+fn written_by_json(alloc: Global) -> Result<String, Fail> {
+    let pool = rows_of_each_kind(alloc)?;
+    let value = to_json(alloc, &pool)?;
+    Ok(value.to_string(alloc)?)
+}
+
+// The document of the pool that is read from that value.
+fn read_by_json(alloc: Global) -> Result<Vec<u8>, Fail> {
+    let pool = rows_of_each_kind(alloc)?;
+    let value = to_json(alloc, &pool)?;
+    let read = pool_from_json(alloc, &value, 64)?;
+    Ok(to_bytes(alloc, &read)?)
+}
+
+// The document of the pool that is read from these bytes.
+fn read_again(alloc: Global, bytes: &[u8]) -> Result<Vec<u8>, Damage> {
+    let pool = pool_from_bytes(alloc, bytes, 64)?;
+    Ok(to_bytes(alloc, &pool)?)
+}
+
+// The same by the call that uses the pool up.
+fn read_into(alloc: Global, bytes: &[u8]) -> Result<Vec<u8>, Damage> {
+    let pool = pool_from_bytes(alloc, bytes, 64)?;
+    Ok(into_bytes(alloc, pool)?)
+}
+
 #[test]
 fn writes_and_reads_rows_of_each_kind(rt: HostRuntime) -> Result<(), Fail> {
-    let pool = rows_of_each_kind(&rt)?;
-    let bytes = to_bytes(rt.alloc(), &pool)?;
     let expected =
         "{\"bits\":64,\"format\":\"ewig-pool\",\"history\":4294967295,\"roots\":[6,3,2,1],\"rows\":[[\"c\",\"a\\\"b\\\\c\\td\\u0001\u{e9}\"],[\"l\",[]],[\"i\",1,[1]],[\"m\",0,4096,0,[0]],[\"k\",[0,10]],[\"p\",[0,1]],[\"s\",[3,18446744073709551615]]],\"version\":3}";
-    assert_eq!(rt; bytes.as_slice(), expected.as_bytes());
-    assert_eq!(rt; text_length(&pool), bytes.len() as u64);
-    let value = to_json(rt.alloc(), &pool)?;
-    assert_eq!(rt; value.to_string(rt.alloc())?.as_str(), expected);
-    let read = pool_from_json(rt.alloc(), &value, 64)?;
-    assert_eq!(rt;
-        to_bytes(rt.alloc(), &read)?.as_slice(),
-        expected.as_bytes()
-    );
-    let read = pool_from_bytes(rt.alloc(), expected.as_bytes(), 64)?;
-    assert_eq!(rt;
-        to_bytes(rt.alloc(), &read)?.as_slice(),
-        expected.as_bytes()
-    );
-    assert_eq!(rt;
-        into_bytes(rt.alloc(), read)?.as_slice(),
-        expected.as_bytes()
-    );
+    let (bytes, length) = written(rt.alloc())?;
+    assert!(rt; bytes.as_slice() == expected.as_bytes() && length == bytes.len() as u64);
+    assert!(rt; written_by_json(rt.alloc())?.as_str() == expected);
+    assert!(rt; read_by_json(rt.alloc())?.as_slice() == expected.as_bytes());
+    assert!(rt; read_again(rt.alloc(), expected.as_bytes())?.as_slice() == expected.as_bytes());
+    assert!(rt; read_into(rt.alloc(), expected.as_bytes())?.as_slice() == expected.as_bytes());
     Ok(())
 }
 
@@ -89,18 +108,10 @@ fn reads_white_space_and_any_order_of_keys(rt: HostRuntime) -> Result<(), Fail> 
     let compact =
         b"{\"bits\":64,\"format\":\"ewig-pool\",\"history\":4294967295,\"roots\":[2,3,4,5],\"rows\":[[\"m\",0,0,0,[]],[\"m\",0,0,0,[]],[\"s\",[0,1]],[\"m\",0,0,0,[]],[\"l\",[]],[\"l\",[]]],\"version\":3}";
     for loose in LOOSE {
-        let pool = pool_from_bytes(rt.alloc(), loose, 64)?;
-        assert_eq!(rt; to_bytes(rt.alloc(), &pool)?.as_slice(), compact.as_slice());
+        let text = read_again(rt.alloc(), loose)?;
+        assert!(rt; text.as_slice() == compact.as_slice());
     }
     Ok(())
-}
-
-// What a space of 64 bits finds wrong with the bytes.
-fn damage_in(rt: &HostRuntime, bytes: &[u8]) -> Option<Damage> {
-    match pool_from_bytes(rt.alloc(), bytes, 64) {
-        Ok(_) => None,
-        Err(damage) => Some(damage),
-    }
 }
 
 // Each document fails the test beside it, if there is one, and those before it in the order of the tests not. The last ones are of
@@ -211,9 +222,9 @@ const DOCUMENTS: [(&[u8], Option<Damage>); 27] = [
 ];
 
 #[test]
-fn finds_the_first_damage(rt: HostRuntime) -> Result<(), Fail> {
+fn finds_the_first_damage(rt: HostRuntime) {
     for (bytes, damage) in DOCUMENTS {
-        assert_eq!(rt; damage_in(&rt, bytes), damage);
+        let answer = pool_from_bytes(rt.alloc(), bytes, 64);
+        assert!(rt; answer.err() == damage, "{damage:?}");
     }
-    Ok(())
 }

@@ -137,6 +137,28 @@ fn tells_containers_from_a_space(rt: HostRuntime) -> Result<(), Fail> {
     Ok(())
 }
 
+// The space without buffers, also with its versions before its state, and whether its rows stand in order.
+const OPENED: [(&[u8], bool); 2] = [
+    (
+        b"{\"bits\":64,\"format\":\"ewig-pool\",\"history\":4294967295,\"roots\":[2,3,4,5],\"rows\":[[\"m\",0,0,0,[]],[\"m\",0,0,0,[]],[\"s\",[0,1]],[\"m\",0,0,0,[]],[\"l\",[]],[\"l\",[]]],\"version\":3}",
+        true,
+    ),
+    (
+        b"{\"bits\":64,\"format\":\"ewig-pool\",\"history\":4294967295,\"roots\":[3,2,4,5],\"rows\":[[\"m\",0,0,0,[]],[\"m\",0,0,0,[]],[\"m\",0,0,0,[]],[\"s\",[0,1]],[\"l\",[]],[\"l\",[]]],\"version\":3}",
+        false,
+    ),
+];
+
+#[test]
+fn opens_a_space_in_any_order(rt: HostRuntime) -> Result<(), Fail> {
+    for (bytes, in_order) in OPENED {
+        let pool = present_pool(rt.alloc(), bytes, CODE_BITS)?;
+        let tested = check_open(rt.alloc(), pool)?;
+        assert!(rt; tested.is_in_order(rt.alloc())? == in_order);
+    }
+    Ok(())
+}
+
 // The containers that the bytes stand for, checked, or what is wrong with them.
 fn containers<T: Stored>(alloc: Global, bytes: &[u8]) -> Result<CheckedRoots<T>, Damage>
     ensures kinds { IfOk result (λ checked. roots_are_of (Lines ∷ Cells ∷ CellMap ∷ LinesMap ∷ []) checked ≡ true) }
@@ -170,13 +192,18 @@ fn loaded<T: Stored>(alloc: Global, heap: &mut Heap<T>, bytes: &[u8]) -> Result<
     Ok(roots)
 }
 
-// The document of what loaded roots reach.
-fn saved<T: Stored>(alloc: Global, heap: &Heap<T>, roots: &[Link]) -> Result<Vec<u8>, NoMemory>
+/// The document of what loaded roots reach, which keeps so many states.
+pub fn saved<T: Stored>(
+    alloc: Global,
+    heap: &Heap<T>,
+    roots: &[Link],
+    history: u32,
+) -> Result<Vec<u8>, NoMemory>
     requires { (P : Pool) × AreRowsLoaded T.bytes_of heap.now roots.now P }
 {
     loaded_roots_fit::<T>();
     let listed = order(alloc, heap, roots)?;
-    let pool = pool_of(alloc, heap, &listed, roots, CODE_BITS, MOST_HISTORY)?;
+    let pool = pool_of(alloc, heap, &listed, roots, CODE_BITS, history)?;
     to_bytes(alloc, &pool)
 }
 
@@ -215,7 +242,8 @@ fn loads_roots_of_other_kinds(rt: HostRuntime) -> Result<(), Fail> {
 fn saves_roots_of_other_kinds(rt: HostRuntime) -> Result<(), Fail> {
     let mut heap: Heap<Text> = Heap::new(rt.alloc());
     let roots = loaded(rt.alloc(), &mut heap, CONTAINERS)?;
-    assert_eq!(rt; saved(rt.alloc(), &heap, &roots)?.as_slice(), CONTAINERS);
+    let text = saved(rt.alloc(), &heap, &roots, MOST_HISTORY)?;
+    assert_eq!(rt; text.as_slice(), CONTAINERS);
     Ok(())
 }
 

@@ -11,6 +11,7 @@ ghost use Rattle.pool_text.specs.Pool.{place_in, relink, settings_by, fits_pool,
 use crate::pool::{Pool, Rows};
 use crate::row::{Places, PoolText, Row};
 use crate::rules::PRESENT_VERSION;
+use crate::texts::{CellTexts, OwnTexts};
 use elem_core::{NoMemory, Stored};
 use node_heap::{Heap, Kind, Link};
 use pool_order::Order;
@@ -30,11 +31,27 @@ pub fn pool_of<T: Stored>(
     requires fits { (r l : ℕ) → 0 < count r roots.now → Reaches (links_at heap.now) r l → fits_pool (form_at heap.now l) ≡ true }
     ensures value { IfOk result (λ p. p ≡ pool_at T.bytes_of heap.now roots.now (settings_by bits history)) }
 {
+    pool_by_texts::<T, OwnTexts>(alloc, heap, order, roots, bits, history)
+}
+
+/// The same of values whose texts these are.
+pub fn pool_by_texts<T, C: CellTexts<T>>(
+    alloc: Global,
+    heap: &Heap<T>,
+    order: &Order,
+    roots: &[Link],
+    bits: u32,
+    history: u32,
+) -> Result<Pool, NoMemory>
+    requires order { order.now ≡ order_of heap.now roots.now }
+    requires fits { (r l : ℕ) → 0 < count r roots.now → Reaches (links_at heap.now) r l → fits_pool (form_at heap.now l) ≡ true }
+    ensures value { IfOk result (λ p. p ≡ pool_at C.bytes_of heap.now roots.now (settings_by bits history)) }
+{
     heap.rows_form_a_graph();
     let mut rows = Vec::with_capacity(alloc, order.len())?;
     for place in 0..order.len() {
         match order.at(place) {
-            Some(link) => rows.push(row_of(alloc, heap, order, link)?)?,
+            Some(link) => rows.push(row_of::<T, C>(alloc, heap, order, link)?)?,
             None => unreachable!(),
         }
     }
@@ -48,7 +65,7 @@ pub fn pool_of<T: Stored>(
 }
 
 // The row of a link, with places for its links.
-fn row_of<T: Stored>(
+fn row_of<T, C: CellTexts<T>>(
     alloc: Global,
     heap: &Heap<T>,
     order: &Order,
@@ -56,21 +73,21 @@ fn row_of<T: Stored>(
 ) -> Result<Row, NoMemory>
     requires fits { fits_pool (form_at heap.now link) ≡ true }
     requires listed { (k : ℕ) → 0 < count k (links_at heap.now link) → 0 < count k order.now }
-    ensures { IfOk result (λ r. option_map (relink (place_in order.now)) (text_forms T.bytes_of heap.now link) ≡ Some (row_form r)) }
+    ensures { IfOk result (λ r. option_map (relink (place_in order.now)) (text_forms C.bytes_of heap.now link) ≡ Some (row_form r)) }
 {
     match heap.kind(link) {
         Some(kind) => node_row(alloc, order, kind, heap.links(link)),
         None => match heap.value(link) {
-            Some(value) => cell_row(alloc, value),
+            Some(value) => cell_row::<T, C>(alloc, value),
             None => unreachable!(),
         },
     }
 }
 
-fn cell_row<T: Stored>(alloc: Global, value: &T) -> Result<Row, NoMemory>
-    ensures { IfOk result (λ r. row_form r ≡ cell (T.bytes_of value.now)) }
+fn cell_row<T, C: CellTexts<T>>(alloc: Global, value: &T) -> Result<Row, NoMemory>
+    ensures { IfOk result (λ r. row_form r ≡ cell (C.bytes_of value.now)) }
 {
-    let text = String::from_str(alloc, value.text())?;
+    let text = String::from_str(alloc, C::text_of(value))?;
     Ok(Row::Cell(PoolText::from_text(text)))
 }
 

@@ -15,10 +15,11 @@ mod relink;
 mod row;
 mod row_in;
 mod rules;
+mod texts;
 mod written;
 
 pub use damage::Damage;
-pub use from_heap::pool_of;
+pub use from_heap::{pool_by_texts, pool_of};
 pub use from_json::{pool_from_bytes, pool_from_json, present_pool_from_bytes};
 pub use from_rows::pool_of_rows;
 pub use laws::{
@@ -37,4 +38,5 @@ pub use rules::{
     FIRST_CODE_BITS, FIRST_DEEPEST, FIRST_VERSION, MOST_HISTORY, PRESENT_VERSION, Rules,
     SECOND_VERSION,
 };
+pub use texts::{CellTexts, OwnTexts};
 pub use written::{into_bytes, numbers_value, rows_value, to_bytes, to_json};

@@ -1,7 +1,7 @@
 //! A program that saves lists and loads them again.
 #![tactic(auto)]
 
-ghost use Rattle.std.specs.Prelude.{◌≡◌, IfOk};
+ghost use Rattle.std.specs.Prelude.{◌≡◌, IfOk, IfErr};
 ghost use Rattle.versions.specs.Store.{Holds};
 
 use anyhow::{Context, Result};
@@ -10,14 +10,14 @@ use pool_text::Damage;
 use std::alloc::Global;
 use std::fmt::Debug;
 use versions::{Lists, Version};
-use versions_pool::{load_lists, save_lists};
+use versions_pool::{lists_after_save, save_lists};
 
-/// What is loaded behind a save is the very store.
+/// What is loaded behind a save is the very store. Refused only where memory runs out.
 pub fn saved_and_loaded<T: Stored>(alloc: Global, lists: &Lists<T>) -> Result<Lists<T>, Damage>
-    ensures { IfOk result (λ loaded. loaded ≡ lists.now) }
+    ensures loaded { IfOk result (λ loaded. loaded ≡ lists.now) }
+    ensures memory { IfErr result (λ d. d ≡ Damage.Memory) }
 {
-    let bytes = save_lists(alloc, lists)?;
-    load_lists(alloc, bytes.as_slice())
+    lists_after_save(alloc, lists)
 }
 
 fn main(rt: HostRuntime) -> Result<()> {

@@ -14,4 +14,13 @@ pub mod SetReadings
 pub mod SaysLemmas
 pub mod ListSays
 pub mod SetSays
+pub mod Agreeing
+pub mod PieceTries
+pub mod MapRoots
+pub mod PairRows
+pub mod ApartLemmas
+pub mod MapReadings
+pub mod MapsRead
+pub mod MapSays
 pub mod LoadLemmas
+pub mod MapLoads

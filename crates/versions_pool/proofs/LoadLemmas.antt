@@ -13,11 +13,11 @@ use Rattle.pool_text.specs.Rows.{Bytes}
 use Rattle.pool_text.specs.declared.pool.Pool.{Pool}
 use Rattle.pool_check.specs.declared.root.RootKind.{RootKind}
 use Rattle.pool_load.specs.Kinds.{IsOfKind}
-use Rattle.pool_load.specs.Loads.{Loads, AreRowsLoaded}
+use Rattle.pool_load.specs.Loads.{Loads, AreRowsLoaded, AreValuedByPlace}
 use Rattle.pool_load.specs.Laws.{LoadedRootsAreOfKinds}
 use Rattle.versions.specs.Roots.{values_in, HasRoots}
 use Rattle.versions_pool.specs.Slots.{AreNamed}
-use Rattle.versions_pool.specs.Loading.{AreNames, AreSaid, AreLoadedAt}
+use Rattle.versions_pool.specs.Loading.{AreNames, AreSaid, AreLoadedAt, AreLoadedWith}
 use Rattle.versions_pool.proofs.SlotLemmas.{find-first, find-later, named-holds, named-count, named-values}
 
 -- a root that is found stands in the list
@@ -64,15 +64,18 @@ module _ {T V : Type 0} (text : T → Bytes) (Is : Heap T → ℕ → V → Type
 -- rows that were loaded into an empty heap, and slots with their roots
 module _ {T : Type 0} (text : T → Bytes) (old new : Heap T) (none : (k : ℕ) → holds_at old k ≡ 0) (empty : hold_count old ≡ 0) (names roots : List ℕ) (P : Pool) (slots : List (Option ℕ)) (are : AreNames names P.roots)
     (loads : Loads old new roots P) (loaded : AreRowsLoaded text new roots P) (rooted : length roots ≡ length P.roots) (named : AreNamed names roots slots) where
-  pub loaded-at : AreLoadedAt text names P new slots
-  loaded-at = record {
-    roots = roots;
-    many = rooted;
-    named = named;
-    rows = loaded;
-    holds = record {
-      holds = λ k. omega (arith, loads.holds k, none k, named-holds names roots slots are.rise (are.many ∙ sym rooted) named k);
-      count = omega (arith, loads.count, empty, named-count names roots slots are.rise (are.many ∙ sym rooted) named);
-      few = omega (arith, named-count names roots slots are.rise (are.many ∙ sym rooted) named, are.few, are.many, rooted);
+  pub loaded-with : (value : ℕ → Bytes → T) → AreValuedByPlace text value new roots → AreLoadedWith text value names P new slots
+  loaded-with value valued = record {
+    loaded = record {
+      roots = roots;
+      many = rooted;
+      named = named;
+      rows = loaded;
+      holds = record {
+        holds = λ k. omega (arith, loads.holds k, none k, named-holds names roots slots are.rise (are.many ∙ sym rooted) named k);
+        count = omega (arith, loads.count, empty, named-count names roots slots are.rise (are.many ∙ sym rooted) named);
+        few = omega (arith, named-count names roots slots are.rise (are.many ∙ sym rooted) named, are.few, are.many, rooted);
+      };
     };
+    valued = valued;
   }

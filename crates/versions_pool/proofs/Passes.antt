@@ -45,7 +45,7 @@ masked-low n bits most le =
 
 module _ (P : Pool) (back : links_lead_back P ≡ true) (ordered : rows_in_order P ≡ true) where
   -- each row is reached
-  reached : (l : ℕ) → l < row_count P → (r : ℕ) × (0 < count r P.roots) × Reaches (links_in (forms_in P)) r l
+  pub reached : (l : ℕ) → l < row_count P → (r : ℕ) × (0 < count r P.roots) × Reaches (links_in (forms_in P)) r l
   unfolding rows_in_order
   reached l low =
       let order_is : order_in P ≡ range_with_len 0 (row_count P) = (bytes_eq-Decides (order_in P) (range_with_len 0 (row_count P))).0 ordered in

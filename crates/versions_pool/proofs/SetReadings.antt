@@ -41,7 +41,7 @@ use Rattle.versions_pool.proofs.Readings.{map-each, map-both}
 use Rattle.versions_pool.proofs.SetRoots.{whole_code, IsTextCell, IsSetRoot}
 use Rattle.versions_pool.proofs.TrieTexted.{text-cell, canon-texted}
 
-same-text : (a b : Bytes) → is_eq (slice_cmp nat_cmp a b) ≡ true → a ≡ b
+pub same-text : (a b : Bytes) → is_eq (slice_cmp nat_cmp a b) ≡ true → a ≡ b
 same-text a b e = (bytes_eq-Decides a b).0 (sym (is_eq-slice_cmp a b) ∙ e)
 
 -- a set of cells under other links is one

@@ -42,7 +42,7 @@ use Rattle.versions_pool.proofs.SetReadings.{root-moved, root-by-text, sets-same
 use Rattle.versions_pool.proofs.Passes.{all-in-range, all-passed}
 use Rattle.versions_pool.proofs.SaysLemmas.{root-from, rooted, saved_pool, saved_order, saved-bits, saved-listed, saved-passes, listed-as, saved-says}
 
-form-cell : {T : Type 0} (r : Option (Row T)) (x : T) → option_map form_of r ≡ Some (cell x) → r ≡ Some (cell x)
+pub form-cell : {T : Type 0} (r : Option (Row T)) (x : T) → option_map form_of r ≡ Some (cell x) → r ≡ Some (cell x)
 form-cell None x is = absurd cc
 form-cell (Some (cell y)) x is = let same : y ≡ x = cc in ap (λ z. Some (cell z)) same
 form-cell (Some (node head links)) x is = absurd cc

@@ -3,6 +3,8 @@ pub mod Seen
 pub mod Stores
 pub mod Lists
 pub mod Sets
+pub mod Apart
+pub mod Maps
 pub mod Slots
 pub mod Loading
 pub mod Laws

@@ -13,7 +13,7 @@ use Rattle.pool_text.specs.declared.pool.Pool.{Pool}
 use Rattle.pool_text.specs.declared.rules.TheConstants.{MOST_HISTORY}
 use Rattle.pool_check.specs.Roots.{roots_are_of}
 use Rattle.pool_check.specs.declared.root.RootKind.{RootKind}
-use Rattle.pool_load.specs.Loads.{AreRowsLoaded}
+use Rattle.pool_load.specs.Loads.{AreRowsLoaded, AreValuedByPlace}
 use Rattle.versions.specs.Roots.{HoldsRoots}
 use Rattle.versions_pool.specs.Saved.{Saved, rise, saved_in_bytes}
 use Rattle.versions_pool.specs.Stores.{pool_with, store_damage}
@@ -48,6 +48,11 @@ module _ {T : Type 0} (text : T → Bytes) where
     pub named : AreNamed names roots slots
     pub rows : AreRowsLoaded text h roots P
     pub holds : HoldsRoots h slots
+
+  -- and each cell has the value of its place and its text
+  pub record AreLoadedWith (value : ℕ → Bytes → T) (names : List ℕ) (P : Pool) (h : Heap T) (slots : List (Option ℕ)) : Type 0 where
+    pub loaded : AreLoadedAt names P h slots
+    pub valued : AreValuedByPlace text value h loaded.roots
 
   -- each value that the roots reach has the text of a cell
   abbrev pub AreCells : Heap T → List (Option ℕ) → Type 0

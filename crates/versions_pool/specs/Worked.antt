@@ -9,6 +9,7 @@ use Rattle.pool_text.specs.declared.damage.Damage.TheVariants.{Json, Form, Versi
 use Rattle.versions_pool.specs.Saved.{Saved, saved_text}
 use Rattle.versions_pool.specs.Lists.{lists_format, lists_damage, lists_in}
 use Rattle.versions_pool.specs.Sets.{sets_format, sets_damage, sets_in}
+use Rattle.versions_pool.specs.Maps.{maps_damage, maps_in}
 
 -- the lists `a` and `a`, `b`, which share a cell, as the versions 0 and 2
 abbrev pub two_lists : Saved
@@ -57,3 +58,14 @@ pub record WorkedSets : Type 0 where
   -- a map
   pub is_bound : sets_damage (codes "{\"format\":\"naipselu-sets\",\"names\":[0],\"roots\":[2],\"rows\":[[\"c\",\"a\"],[\"p\",[0,0]],[\"m\",0,4096,0,[1]]],\"version\":1}") ≡ Some Kind
   pub is_turned : sets_damage (codes "{\"format\":\"naipselu-sets\",\"names\":[0],\"roots\":[2],\"rows\":[[\"c\",\"a\"],[\"c\",\"b\"],[\"m\",0,4128,0,[1,0]]],\"version\":1}") ≡ Some Order
+
+pub record WorkedMaps : Type 0 where
+  -- `a` is bound to `b` in the version 0, and in the version 2 to `b` and `b` to `a`: the cells of keys and of values are apart
+  pub is_read : maps_in (slice_cmp nat_cmp) texts_in texts_in (codes "{\"format\":\"naipselu-maps\",\"names\":[0,2],\"roots\":[3,7],\"rows\":[[\"c\",\"a\"],[\"c\",\"b\"],[\"p\",[0,1]],[\"m\",0,4096,0,[2]],[\"c\",\"b\"],[\"c\",\"a\"],[\"p\",[4,5]],[\"m\",0,4128,0,[6,2]]],\"version\":1}")
+      ≡ Some (from_entries ((0, (97 ∷ [], 98 ∷ []) ∷ []) ∷ (2, (97 ∷ [], 98 ∷ []) ∷ (98 ∷ [], 97 ∷ []) ∷ []) ∷ []))
+  -- a cell that is a key and a value
+  pub is_both : maps_damage (codes "{\"format\":\"naipselu-maps\",\"names\":[0],\"roots\":[2],\"rows\":[[\"c\",\"a\"],[\"p\",[0,0]],[\"m\",0,4096,0,[1]]],\"version\":1}") ≡ Some Kind
+  pub is_empty : maps_in (slice_cmp nat_cmp) texts_in texts_in (codes "{\"format\":\"naipselu-maps\",\"names\":[1],\"roots\":[0],\"rows\":[[\"m\",0,0,0,[]]],\"version\":1}") ≡ Some (from_entries ((1, []) ∷ []))
+  -- a set, and a key where its digit isn't
+  pub is_set : maps_damage (codes "{\"format\":\"naipselu-maps\",\"names\":[0],\"roots\":[1],\"rows\":[[\"c\",\"a\"],[\"m\",0,4096,0,[0]]],\"version\":1}") ≡ Some Kind
+  pub is_misplaced : maps_damage (codes "{\"format\":\"naipselu-maps\",\"names\":[0],\"roots\":[2],\"rows\":[[\"c\",\"a\"],[\"p\",[0,0]],[\"m\",0,8192,0,[1]]],\"version\":1}") ≡ Some Trie

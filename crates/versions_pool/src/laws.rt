@@ -1,6 +1,6 @@
 //! Laws of documents of stores, as the clauses of functions that do nothing.
 ghost use Rattle.versions_pool.specs.Laws.{DocumentsReadBack};
-ghost use Rattle.versions_pool.specs.Worked.{WorkedLists, WorkedSets};
+ghost use Rattle.versions_pool.specs.Worked.{WorkedLists, WorkedMaps, WorkedSets};
 
 /// A document that says something in range says just that.
 pub fn documents_read_back()
@@ -15,4 +15,9 @@ pub fn worked_lists()
 /// What small documents of sets stand for, and the first tests that others fail.
 pub fn worked_sets()
     ensures { WorkedSets }
+{}
+
+/// What small documents of maps stand for, and the first tests that others fail.
+pub fn worked_maps()
+    ensures { WorkedMaps }
 {}

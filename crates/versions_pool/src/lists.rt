@@ -13,8 +13,8 @@ use crate::saving::saved_roots;
 use elem_core::{NoMemory, Stored};
 use node_heap::{Heap, Link};
 use pool_check::{RootKind, pools_pass_as_made};
-use pool_load::{loaded_roots_are_of_kinds, loaded_rows_are_listed};
-use pool_text::{Damage, pools_are_renamed};
+use pool_load::{OwnValues, loaded_roots_are_of_kinds, loaded_rows_are_listed};
+use pool_text::{Damage, OwnTexts, pools_are_renamed};
 use slab::Slab;
 use std::alloc::Global;
 use versions::Lists;
@@ -38,8 +38,8 @@ pub fn load_lists<T: Stored>(alloc: Global, bytes: &[u8]) -> Result<Lists<T>, Da
     ensures damage { IfErr result (λ d. d ≢ Damage.Memory → lists_damage bytes.now ≡ Some d) }
     ensures none { IfErr result (λ d. d ≢ Damage.Memory → lists_in T.of_bytes bytes.now ≡ None) }
 {
-    let (names, checked) = checked_document(alloc, bytes, "naipselu-lists", RootKind::Lines)?;
-    let (heap, slots) = loaded_roots(alloc, names, checked)?;
+    let (names, checked) = checked_document::<T>(alloc, bytes, "naipselu-lists", RootKind::Lines)?;
+    let (heap, slots) = loaded_roots(alloc, names, checked, &OwnValues)?;
     loaded_roots_are_of_kinds::<T>();
     loaded_rows_are_listed::<T>();
     Ok(Lists::of_parts(heap, slots))
@@ -66,5 +66,5 @@ fn saved_lists<T: Stored>(
     heap.rows_form_a_graph();
     pools_are_renamed();
     pools_pass_as_made();
-    saved_roots(alloc, heap, slots)
+    saved_roots::<T, OwnTexts>(alloc, heap, slots)
 }

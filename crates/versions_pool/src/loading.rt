@@ -6,14 +6,14 @@ ghost use Rattle.pool_text.specs.Rules.{present_rules};
 ghost use Rattle.pool_check.specs.Damages.{damage_with_roots};
 ghost use Rattle.pool_check.specs.Roots.{roots_are_of};
 ghost use Rattle.versions_pool.specs.Stores.{pool_with, store_damage};
-ghost use Rattle.versions_pool.specs.Loading.{AreNames, AreSaid, AreLoadedAt};
+ghost use Rattle.versions_pool.specs.Loading.{AreNames, AreSaid, AreLoadedWith};
 
 use crate::document::saved_from_bytes;
 use crate::slots::slots_of;
 use elem_core::{CODE_BITS, NoMemory, Stored};
 use node_heap::{Heap, Link};
 use pool_check::{CheckedRoots, RootKind, check_roots};
-use pool_load::load_roots;
+use pool_load::{CellValues, load_roots_by};
 use pool_text::{Damage, MOST_HISTORY, PRESENT_VERSION, Places, Pool, Rows};
 use slab::Slab;
 use std::alloc::Global;
@@ -69,17 +69,18 @@ fn all_of(alloc: Global, count: usize, kind: RootKind) -> Result<Vec<RootKind>, 
     Ok(kinds)
 }
 
-// The pool's rows in a heap of their own, and its roots at these numbers.
-pub(crate) fn loaded_roots<T: Stored>(
+// The pool's rows in a heap of their own, with these values, and its roots at these numbers.
+pub(crate) fn loaded_roots<S: Stored, T: Drop, C: CellValues<T>>(
     alloc: Global,
     names: Places,
-    checked: CheckedRoots<T>,
+    checked: CheckedRoots<S>,
+    values: &C,
 ) -> Result<(Heap<T>, Slab<Link>), NoMemory>
     requires { AreNames names checked.roots }
-    ensures { IfOk result (λ r. AreLoadedAt T.bytes_of names checked r.0 r.1.slots) }
+    ensures { IfOk result (λ r. AreLoadedWith C.bytes_of (C.value_at values.now) names checked r.0 r.1.slots) }
 {
     let mut heap = Heap::new(alloc);
-    let roots = load_roots(alloc, &mut heap, checked)?;
+    let roots = load_roots_by(alloc, &mut heap, checked, values)?;
     let slots = slots_of(alloc, names.as_slice(), roots.as_slice())?;
     Ok((heap, slots))
 }

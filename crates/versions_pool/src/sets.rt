@@ -13,8 +13,8 @@ use crate::saving::saved_roots;
 use elem_core::{NoMemory, Stored};
 use node_heap::{Heap, Link};
 use pool_check::{RootKind, pools_pass_as_made};
-use pool_load::{loaded_roots_are_of_kinds, loaded_rows_are_listed};
-use pool_text::{Damage, pools_are_renamed};
+use pool_load::{OwnValues, loaded_roots_are_of_kinds, loaded_rows_are_listed};
+use pool_text::{Damage, OwnTexts, pools_are_renamed};
 use slab::Slab;
 use std::alloc::Global;
 use versions::Sets;
@@ -38,8 +38,8 @@ pub fn load_sets<K: Stored>(alloc: Global, bytes: &[u8]) -> Result<Sets<K>, Dama
     ensures damage { IfErr result (λ d. d ≢ Damage.Memory → sets_damage bytes.now ≡ Some d) }
     ensures none { IfErr result (λ d. d ≢ Damage.Memory → sets_in K.cmp K.of_bytes bytes.now ≡ None) }
 {
-    let (names, checked) = checked_document(alloc, bytes, "naipselu-sets", RootKind::Cells)?;
-    let (heap, slots) = loaded_roots(alloc, names, checked)?;
+    let (names, checked) = checked_document::<K>(alloc, bytes, "naipselu-sets", RootKind::Cells)?;
+    let (heap, slots) = loaded_roots(alloc, names, checked, &OwnValues)?;
     loaded_roots_are_of_kinds::<K>();
     loaded_rows_are_listed::<K>();
     Ok(Sets::of_parts(heap, slots))
@@ -66,5 +66,5 @@ fn saved_sets<K: Stored>(
     heap.rows_form_a_graph();
     pools_are_renamed();
     pools_pass_as_made();
-    saved_roots(alloc, heap, slots)
+    saved_roots::<K, OwnTexts>(alloc, heap, slots)
 }

@@ -1,6 +1,5 @@
 use Rattle.std.proofs.Common.{ℕ, refl, subst}
 use Rattle.std.specs.Prelude.{[], ◌∷◌, slice_index}
-use Rattle.elem_core.specs.declared.codes.TheConstants.{CODE_BITS}
 use Rattle.pool_check.specs.declared.root.RootKind.TheVariants.{Lines, Cells, CellMap, LinesMap}
 use Rattle.pool_load.specs.Kinds.{IsMapTo, IsLines}
 use Rattle.pool_tests.proofs.roots.loaded.Goals as goal

@@ -23,18 +23,18 @@ loaded_roots-requires g c = c.in_ok-names.ensures.said.names_are
 
 pub of_parts-requires : goal.of_parts-requires
 of_parts-requires g c =
-    loaded-has g.T.Stored.bytes_of IsListOf list_at c.in_ok-names.names c.in_ok-names.checked c.in_ok-heap.heap c.in_ok-heap.slots.slots c.in_ok-heap.ensures
-    (λ i low. lines-are g.T.Ord.cmp g.T.Element.code_of c.in_ok-names.checked.bits c.in_ok-heap.heap _ (of-kind g.T.Stored.bytes_of IsListOf list_at c.in_ok-names.names c.in_ok-names.checked c.in_ok-heap.heap c.in_ok-heap.slots.slots c.in_ok-heap.ensures lists_format Lines c.args.bytes.now g.T.Ord.cmp g.T.Element.code_of c.loaded_roots_are_of_kinds.ensures c.in_ok-names.ensures.said i low))
+    loaded-has g.T.Stored.bytes_of IsListOf list_at c.in_ok-names.names c.in_ok-names.checked c.in_ok-heap.heap c.in_ok-heap.slots.slots c.in_ok-heap.ensures.loaded
+    (λ i low. lines-are g.T.Ord.cmp g.T.Element.code_of c.in_ok-names.checked.bits c.in_ok-heap.heap _ (of-kind g.T.Stored.bytes_of IsListOf list_at c.in_ok-names.names c.in_ok-names.checked c.in_ok-heap.heap c.in_ok-heap.slots.slots c.in_ok-heap.ensures.loaded lists_format Lines c.args.bytes.now g.T.Ord.cmp g.T.Element.code_of c.loaded_roots_are_of_kinds.ensures c.in_ok-names.ensures.said i low))
 
 pub returns-clause-lists : goal.returns-clause-lists
 returns-clause-lists g c =
     let h = c.in_ok-heap.heap in
     let P : Pool = c.in_ok-names.checked in
-    let loaded = c.in_ok-heap.ensures in
+    let loaded = c.in_ok-heap.ensures.loaded in
     let roots : List ℕ = loaded.roots in
     let listed = (c.loaded_rows_are_listed.ensures h roots P loaded.rows).rows in
     said-read lists_format Lines c.args.bytes.now (list_in g.T.Stored.of_bytes) c.in_ok-names.names P c.in_ok-names.ensures.said
-    ∙ ap (λ m. Some m) (sym (c.of_parts.ensures ∙ loaded-values g.T.Stored.bytes_of IsListOf list_at c.in_ok-names.names c.in_ok-names.checked c.in_ok-heap.heap c.in_ok-heap.slots.slots c.in_ok-heap.ensures (list_in g.T.Stored.of_bytes)
+    ∙ ap (λ m. Some m) (sym (c.of_parts.ensures ∙ loaded-values g.T.Stored.bytes_of IsListOf list_at c.in_ok-names.names c.in_ok-names.checked c.in_ok-heap.heap c.in_ok-heap.slots.slots c.in_ok-heap.ensures.loaded (list_in g.T.Stored.of_bytes)
     (lists-same g.T.Stored.bytes_of g.T.Stored.of_bytes g.met.T.Stored.reads_back h roots (order_of h roots) P listed)))
 
 pub returns-clause-whole : goal.returns-clause-whole

@@ -15,7 +15,7 @@ pub unreachable-requires : goal.unreachable-requires
 unreachable-requires g c = let past = get-none c.args.listed.now c.loop-place.place (sym c.in-None.is ∙ c.at.ensures) in omega arith
 
 pub loop-place-preserved : goal.loop-place-preserved
-loop-place-preserved g c = λ i k x low at row. elim (cases_eq i c.loop-place.place) as (λ _. IsCell (g.T.Stored.bytes_of x)) [
+loop-place-preserved g c = λ i k x low at row. elim (cases_eq i c.loop-place.place) as (λ _. IsCell (g.C.CellTexts.bytes_of x)) [
   | inl same ↦ c.text_is_cell.ensures x (ap (row_at c.args.heap.now) (some-same c.in-Some.link k (sym c.in-Some.is ∙ c.at.ensures ∙ ap (slice_get c.args.listed.now) (sym same) ∙ at)) ∙ row)
   | inr other ↦ c.loop-place.invariant i k x (omega (arith, low, other)) at row
 ]

@@ -23,20 +23,20 @@ loaded_roots-requires g c = c.in_ok-names.ensures.said.names_are
 
 pub of_parts-requires : goal.of_parts-requires
 of_parts-requires g c =
-    loaded-has g.K.Stored.bytes_of (IsKeySet g.K.Ord.cmp g.K.Element.code_of) (keys_at g.K.Ord.cmp) c.in_ok-names.names c.in_ok-names.checked c.in_ok-heap.heap c.in_ok-heap.slots.slots c.in_ok-heap.ensures
-    (λ i low. let is = of-kind g.K.Stored.bytes_of (IsKeySet g.K.Ord.cmp g.K.Element.code_of) (keys_at g.K.Ord.cmp) c.in_ok-names.names c.in_ok-names.checked c.in_ok-heap.heap c.in_ok-heap.slots.slots c.in_ok-heap.ensures sets_format Cells c.args.bytes.now g.K.Ord.cmp g.K.Element.code_of c.loaded_roots_are_of_kinds.ensures c.in_ok-names.ensures.said i low in keyed-root g.K.Stored.bytes_of g.K.Ord.cmp g.K.Element.code_of g.met.K.Stored.text_order g.met.K.Stored.text_codes c.in_ok-heap.heap g.met.K.Ord.total _ c.in_ok-names.checked.bits is.0 (ap (λ (P : Pool). P.bits) c.in_ok-names.ensures.said.pool) is.1)
+    loaded-has g.K.Stored.bytes_of (IsKeySet g.K.Ord.cmp g.K.Element.code_of) (keys_at g.K.Ord.cmp) c.in_ok-names.names c.in_ok-names.checked c.in_ok-heap.heap c.in_ok-heap.slots.slots c.in_ok-heap.ensures.loaded
+    (λ i low. let is = of-kind g.K.Stored.bytes_of (IsKeySet g.K.Ord.cmp g.K.Element.code_of) (keys_at g.K.Ord.cmp) c.in_ok-names.names c.in_ok-names.checked c.in_ok-heap.heap c.in_ok-heap.slots.slots c.in_ok-heap.ensures.loaded sets_format Cells c.args.bytes.now g.K.Ord.cmp g.K.Element.code_of c.loaded_roots_are_of_kinds.ensures c.in_ok-names.ensures.said i low in keyed-root g.K.Stored.bytes_of g.K.Ord.cmp g.K.Element.code_of g.met.K.Stored.text_order g.met.K.Stored.text_codes c.in_ok-heap.heap g.met.K.Ord.total _ c.in_ok-names.checked.bits is.0 (ap (λ (P : Pool). P.bits) c.in_ok-names.ensures.said.pool) is.1)
 
 pub returns-clause-sets : goal.returns-clause-sets
 returns-clause-sets g c =
     let h = c.in_ok-heap.heap in
     let P : Pool = c.in_ok-names.checked in
-    let loaded = c.in_ok-heap.ensures in
+    let loaded = c.in_ok-heap.ensures.loaded in
     let roots : List ℕ = loaded.roots in
     let listed = (c.loaded_rows_are_listed.ensures h roots P loaded.rows).rows in
     said-read sets_format Cells c.args.bytes.now (set_in g.K.Ord.cmp g.K.Stored.of_bytes) c.in_ok-names.names P c.in_ok-names.ensures.said
-    ∙ ap (λ m. Some m) (sym (c.of_parts.ensures ∙ loaded-values g.K.Stored.bytes_of (IsKeySet g.K.Ord.cmp g.K.Element.code_of) (keys_at g.K.Ord.cmp) c.in_ok-names.names c.in_ok-names.checked c.in_ok-heap.heap c.in_ok-heap.slots.slots c.in_ok-heap.ensures (set_in g.K.Ord.cmp g.K.Stored.of_bytes)
+    ∙ ap (λ m. Some m) (sym (c.of_parts.ensures ∙ loaded-values g.K.Stored.bytes_of (IsKeySet g.K.Ord.cmp g.K.Element.code_of) (keys_at g.K.Ord.cmp) c.in_ok-names.names c.in_ok-names.checked c.in_ok-heap.heap c.in_ok-heap.slots.slots c.in_ok-heap.ensures.loaded (set_in g.K.Ord.cmp g.K.Stored.of_bytes)
     (sets-same g.K.Stored.bytes_of g.K.Ord.cmp g.K.Element.code_of g.met.K.Stored.text_order g.met.K.Stored.text_codes h g.met.K.Ord.total g.K.Stored.of_bytes g.met.K.Stored.reads_back roots (order_of h roots) P listed loaded.rows.checked.rows.passed.lead_back
-    (each-at (λ l. IsKeySet g.K.Ord.cmp g.K.Element.code_of h l (keys_at g.K.Ord.cmp h l)) roots (λ i low. let is = of-kind g.K.Stored.bytes_of (IsKeySet g.K.Ord.cmp g.K.Element.code_of) (keys_at g.K.Ord.cmp) c.in_ok-names.names c.in_ok-names.checked c.in_ok-heap.heap c.in_ok-heap.slots.slots c.in_ok-heap.ensures sets_format Cells c.args.bytes.now g.K.Ord.cmp g.K.Element.code_of c.loaded_roots_are_of_kinds.ensures c.in_ok-names.ensures.said i low in keyed-root g.K.Stored.bytes_of g.K.Ord.cmp g.K.Element.code_of g.met.K.Stored.text_order g.met.K.Stored.text_codes c.in_ok-heap.heap g.met.K.Ord.total _ c.in_ok-names.checked.bits is.0 (ap (λ (P : Pool). P.bits) c.in_ok-names.ensures.said.pool) is.1)))))
+    (each-at (λ l. IsKeySet g.K.Ord.cmp g.K.Element.code_of h l (keys_at g.K.Ord.cmp h l)) roots (λ i low. let is = of-kind g.K.Stored.bytes_of (IsKeySet g.K.Ord.cmp g.K.Element.code_of) (keys_at g.K.Ord.cmp) c.in_ok-names.names c.in_ok-names.checked c.in_ok-heap.heap c.in_ok-heap.slots.slots c.in_ok-heap.ensures.loaded sets_format Cells c.args.bytes.now g.K.Ord.cmp g.K.Element.code_of c.loaded_roots_are_of_kinds.ensures c.in_ok-names.ensures.said i low in keyed-root g.K.Stored.bytes_of g.K.Ord.cmp g.K.Element.code_of g.met.K.Stored.text_order g.met.K.Stored.text_codes c.in_ok-heap.heap g.met.K.Ord.total _ c.in_ok-names.checked.bits is.0 (ap (λ (P : Pool). P.bits) c.in_ok-names.ensures.said.pool) is.1)))))
 
 pub returns-clause-whole : goal.returns-clause-whole
 returns-clause-whole g c = c.in_ok-names.ensures.said.whole

@@ -6,7 +6,7 @@ use Rattle.pool_text.specs.Rows.{row_form}
 use Rattle.pool_text.specs.Pool.{place_in, relink, settings_by, text_forms}
 use Rattle.pool_text.proofs.Placed.{item_in, get-some, get-none}
 use Rattle.pool_text.proofs.Gathered.{listed-fits, listed-links, listed-roots, pool-is, rows-next, take_all}
-use Rattle.pool_text.proofs.from_heap.pool_of.Goals as goal
+use Rattle.pool_text.proofs.from_heap.pool_by_texts.Goals as goal
 
 pub row_of-requires-clause-fits : goal.row_of-requires-clause-fits
 row_of-requires-clause-fits g c =
@@ -26,7 +26,7 @@ unreachable-requires g c = let past = get-none c.args.order.now c.loop-place.pla
 
 pub loop-place-preserved : goal.loop-place-preserved
 loop-place-preserved g c =
-    rows-next (λ k. option_map (relink (place_in c.args.order.now)) (text_forms g.T.Stored.bytes_of c.args.heap.now k)) c.args.order.now c.loop-place.place c.in-Some.link _ _ (row_form c.in_ok-row_of-in-Some.field-0)
+    rows-next (λ k. option_map (relink (place_in c.args.order.now)) (text_forms g.C.CellTexts.bytes_of c.args.heap.now k)) c.args.order.now c.loop-place.place c.in-Some.link _ _ (row_form c.in_ok-row_of-in-Some.field-0)
     c.loop-place.invariant (sym c.in-Some.is ∙ c.at.ensures) c.in_ok-row_of-in-Some.ensures (ap (map row_form) c.in_ok-push-in-Some.ensures.items ∙ map-append row_form c.loop-place.rows.items (c.in_ok-row_of-in-Some.field-0 ∷ []))
 
 pub places_of-requires : goal.places_of-requires
@@ -37,7 +37,7 @@ places_of-requires g c = record {
 pub returns : goal.returns
 returns g c = record {
   value =
-      pool-is g.T.Stored.bytes_of c.args.heap.now c.args.roots.now (settings_by c.args.bits c.args.history) c.args.order.now c.from_vec.result c.in_ok-places_of.field-0 c.requires.order
-      (c.from_vec.ensures ∙ c.loop-place.invariant ∙ ap (filter_map (λ k. option_map (relink (place_in c.args.order.now)) (text_forms g.T.Stored.bytes_of c.args.heap.now k))) (take_all c.args.order.now c.loop-place.place (omega arith)))
+      pool-is g.C.CellTexts.bytes_of c.args.heap.now c.args.roots.now (settings_by c.args.bits c.args.history) c.args.order.now c.from_vec.result c.in_ok-places_of.field-0 c.requires.order
+      (c.from_vec.ensures ∙ c.loop-place.invariant ∙ ap (filter_map (λ k. option_map (relink (place_in c.args.order.now)) (text_forms g.C.CellTexts.bytes_of c.args.heap.now k))) (take_all c.args.order.now c.loop-place.place (omega arith)))
       c.in_ok-places_of.ensures;
 }

@@ -9,13 +9,14 @@ use Rattle.pool_text.specs.Rules.{present_rules, rules_of}
 use Rattle.pool_text.specs.declared.pool.Pool.{Pool}
 use Rattle.pool_text.specs.declared.row.Row.{Row}
 use Rattle.pool_check.specs.Damages.{HasValidRows}
-use Rattle.pool_load.specs.Loads.{Loads, AreRowsLoaded, cells_of, nodes_of}
+use Rattle.pool_load.specs.Loads.{Loads, AreRowsLoaded, AreValuedByPlace, cells_of, nodes_of}
 use Rattle.pool_load.specs.Rows.{AreSound, HaveLengths}
 use Rattle.pool_load.specs.Making.{AreMade, GivesUp, AreReachedWithout}
-use Rattle.pool_load.proofs.Loaded.{sound-rows, roots-below, kinds-add-up, AreHeld, own-held, reached-without, are-loaded, all-loaded, rows-loaded, need-kept}
-use Rattle.pool_load.proofs.loading.load_roots.Given.{Over}
-use Rattle.pool_load.proofs.loading.load_roots.Goals as goal
-use Rattle.pool_load.proofs.loading.load_roots.Goals.{After-hold_places}
+use Rattle.pool_load.proofs.Loaded.{sound-rows, roots-below, kinds-add-up, AreHeld, own-held, reached-without, are-loaded, are-valued, all-loaded, rows-loaded, need-kept}
+use Rattle.pool_load.proofs.Valued.{same-valued}
+use Rattle.pool_load.proofs.loading.load_roots_by.Given.{Over}
+use Rattle.pool_load.proofs.loading.load_roots_by.Goals as goal
+use Rattle.pool_load.proofs.loading.load_roots_by.Goals.{After-hold_places}
 
 -- the rows are those of the pool, and are valid
 record AreRowsOf (P : Pool) (rows : List Row) : Type 0 where
@@ -43,7 +44,7 @@ roots-of : {P Q : Pool} {ks : List ℕ} → Q ≡ P → ks ≡ Q.roots → ks �
 roots-of same read = read ∙ ap (λ (Q : Pool). Q.roots) same
 
 -- the rows that were made, and the roots among them, each held once more
-held : (g : Over) (c : After-hold_places g) → AreHeld g.T.Stored.bytes_of c.reserve.new.self c.make_rows.new.heap c.hold_places.new.heap c.args.checked c.make_rows.new.links.items
+held : (g : Over) (c : After-hold_places g) → AreHeld g.C.CellValues.bytes_of c.reserve.new.self c.make_rows.new.heap c.hold_places.new.heap c.args.checked c.make_rows.new.links.items
 held g c =
     let P : Pool = c.args.checked in
     let rows = rows-of c.into_vec.result.items c.into_pool-rows.ensures.same c.into_pool-rows.ensures.rows c.into_vec.ensures in
@@ -54,7 +55,7 @@ held g c =
     record {
       valid = rows.valid;
       graph = c.reserve.ensures.rest.graph;
-      rows = subst (λ (rs : List (Form Bytes)). AreMade g.T.Stored.bytes_of c.reserve.new.self c.make_rows.new.heap rs links) rows.forms c.make_rows.ensures.made;
+      rows = subst (λ (rs : List (Form Bytes)). AreMade g.C.CellValues.bytes_of c.reserve.new.self c.make_rows.new.heap rs links) rows.forms c.make_rows.ensures.made;
       many = c.make_rows.ensures.many ∙ rows.many;
       same = c.hold_places.ensures.rows;
       held = subst (λ (ks : List ℕ). Builds c.make_rows.new.heap c.hold_places.new.heap [] ks 0 0) places c.hold_places.ensures.builds;
@@ -140,13 +141,18 @@ returns g c =
     record {
       loads = subst (λ (ks : List ℕ). Loads c.args.heap.now new ks P) (sym chosen) (all-loaded is up c.reserve.ensures.rest);
       loaded =
-          subst (λ (ks : List ℕ). AreRowsLoaded g.T.Stored.bytes_of new ks P) (sym chosen)
-          (are-loaded g.T.Stored.bytes_of new P is.valid links (rows-loaded is up)
+          subst (λ (ks : List ℕ). AreRowsLoaded g.C.CellValues.bytes_of new ks P) (sym chosen)
+          (are-loaded g.C.CellValues.bytes_of new P is.valid links (rows-loaded is up)
           (record {
             rules = subst (λ (Q : Pool). rules_of Q.version ≡ Some present_rules) c.pool-pool.ensures.same c.pool-pool.ensures.rules;
             bits = omega (arith, c.pool-pool.ensures.bits, ap (λ (Q : Pool). Q.bits) c.pool-pool.ensures.same);
             rows = is.valid;
           }));
+      valued =
+          let value = g.C.CellValues.value_at c.args.values.now in
+          subst (λ (ks : List ℕ). AreValuedByPlace g.C.CellValues.bytes_of value new ks) (sym chosen)
+          (are-valued g.C.CellValues.bytes_of new P is.valid links (rows-loaded is up) value
+          (same-valued g.C.CellValues.bytes_of value c.hold_places.new.heap new links up.rows (same-valued g.C.CellValues.bytes_of value c.make_rows.new.heap c.hold_places.new.heap links c.hold_places.ensures.rows c.make_rows.ensures.valued)));
       roots = ap length chosen ∙ length-map P.roots (slice_index links);
       spares =
           need-kept is up c.in_ok-reserve.ensures.greater c.reserve.ensures.rest (c.count_cells-cells.ensures ∙ was.cells)

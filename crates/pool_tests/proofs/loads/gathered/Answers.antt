@@ -5,7 +5,7 @@ use Rattle.node_heap.specs.Forms.{Form}
 use Rattle.pool_text.specs.Rows.{Bytes, row_form}
 use Rattle.pool_tests.proofs.Counted.{counted}
 use Rattle.pool_tests.proofs.Listed.{linked-below}
-use Rattle.pool_tests.proofs.loads.gathers_rows_of_a_list.Goals as goal
+use Rattle.pool_tests.proofs.loads.gathered.Goals as goal
 
 pub pool_of_rows-requires-clause-linked : goal.pool_of_rows-requires-clause-linked
 pool_of_rows-requires-clause-linked g c = linked-below c.pool.result.now c.pool.ensures.valid.lead_back
