@@ -4,12 +4,8 @@
 ghost use Rattle.std.specs.Prelude.{◌≡◌, ◌<◌, [], ◌∷◌, length, drop, slice_index_or, option_copied, IfOk, OnErr};
 ghost use Rattle.std.specs.FinMap.{find, put};
 
-use anyhow::Result;
-use elem_core::{Element, Num, Probe};
-use std::alloc::Global;
+use elem_core::{Element, NoMemory, Num, Probe};
 use std::collections::VecDeque;
-use std::fmt::Debug;
-use std::marker::Model;
 use versions::{Maps, Version};
 
 /// Numbers by their names, and what they were before each change. Contracts see all of these, the newest first.
@@ -20,7 +16,7 @@ pub struct Settings<K: Element> {
     past: VecDeque<Version>,
 }
 
-impl<K: Element> Model for Settings<K> {
+impl<K: Element> std::marker::Model for Settings<K> {
     ghost use Rattle.std.specs.Prelude.{ℕ, List, ◌∷◌};
     ghost use Rattle.versions.specs.History.{AreHeld, lists_of};
 
@@ -31,9 +27,9 @@ impl<K: Element> Model for Settings<K> {
     ghost invariant = { λ s. AreHeld s.maps (s.newest ∷ s.past.items) };
 }
 
-impl<K: Element + Debug> Settings<K> {
+impl<K: Element> Settings<K> {
     /// Nothing is set, and nothing was.
-    pub fn new(alloc: Global) -> Result<Settings<K>>
+    pub fn new(alloc: std::alloc::Global) -> Result<Settings<K>, NoMemory>
         ensures { IfOk result (λ s. s ≡ [] ∷ []) }
     {
         let mut maps = Maps::new(alloc);
@@ -42,14 +38,16 @@ impl<K: Element + Debug> Settings<K> {
         Ok(Settings { maps, newest, past })
     }
 
-    /// Sets the name to the number.
-    pub fn set(&mut self, name: K, number: u32) -> Result<()>
+    /// Sets the name to the number. Refused only where memory runs out, and then nothing has changed.
+    pub fn set(&mut self, name: K, number: u32) -> Result<(), NoMemory>
         ensures changed { IfOk result (λ _. self.new ≡ put K.cmp name number (slice_index_or self.old 0 []) ∷ self.old) }
         ensures refused { OnErr result (self.new ≡ self.old) }
         ensures some { 0 < length self.old }
     {
         self.past.reserve(1)?;
-        let version = self.maps.insert(self.newest, name, number)?;
+        let Ok(version) = self.maps.insert(self.newest, name, number) else {
+            return Err(NoMemory);
+        };
         self.past.push_front(self.newest)?;
         self.newest = version;
         Ok(())
@@ -74,15 +72,14 @@ impl<K: Element + Debug> Settings<K> {
     }
 }
 
-fn main(rt: HostRuntime) -> Result<()> {
+fn main(rt: HostRuntime) -> anyhow::Result<()> {
     run(&rt, &mut Settings::new(rt.alloc())?)
 }
 
 // The name of the width is 1.
-fn run(rt: &HostRuntime, settings: &mut Settings<Num>) -> Result<()> {
+fn run(rt: &HostRuntime, settings: &mut Settings<Num>) -> anyhow::Result<()> {
     settings.set(Num(1), 80)?;
     settings.set(Num(1), 100)?;
-    println!(rt; "{:?}", settings.get(&Num(1)))?;
     settings.undo();
     Ok(println!(rt; "{:?}", settings.get(&Num(1)))?)
 }

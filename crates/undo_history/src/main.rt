@@ -1,7 +1,8 @@
 //! The moves of a piece on a board, with an undo history.
 #![tactic(auto)]
 
-ghost use Rattle.std.specs.Prelude.{◌≡◌, [], ◌∷◌, ◌++◌, IfOk};
+ghost use Rattle.std.specs.Prelude.{◌≡◌, ◌≢◌, ◌↔◌, ◌⊎◌, ◌+◌, ◌-◌, ◌^◌, [], ◌∷◌, ◌++◌, length, IfOk, IfErr, IsErrAnd};
+ghost use Rattle.versions.specs.declared.faults.Fault.TheVariants.{Long, Range};
 ghost use Rattle.versions.specs.History.{present};
 
 use anyhow::Result;
@@ -28,22 +29,29 @@ impl Element for Place {
     ghost equal_codes = { λ x y same. nat_cmp-IsAntisymmetric x.row y.row (first-equal _ _ same) };
 }
 
-/// To undo what was put behind the others gives the very lists back.
-pub fn push_and_undo<T: Element>(history: &mut History<T>, element: T) -> Result<(), Refused<T>>
-    ensures { history.new ≡ history.old }
+/// To undo what was put behind the others gives the very lists back. It says how many elements there were with it.
+pub fn push_and_undo<T: Element>(history: &mut History<T>, element: T) -> Result<u32, Refused<T>>
+    ensures back { history.new ≡ history.old }
+    ensures between { IfOk result (λ count. count ≡ length (present history.old) + 1) }
+    ensures given_back { IfErr result (λ r. r.element ≡ element) }
+    ensures long { (IsErrAnd result (λ r. r.fault ≡ Long)) ↔ (length (present history.old) ≡ 2 ^ 32 - 1) }
+    ensures no_range { IfErr result (λ r. r.fault ≢ Range) }
 {
     history.push(element)?;
+    let between = history.len();
     history.undo();
-    Ok(())
+    Ok(between)
 }
 
-/// To undo the second of two changes leaves the first, and all that was before.
+/// To undo the second of two changes leaves the first, and all that was before. It says how many elements there were with both.
 pub fn push_two_undo_one<T: Element>(
     history: &mut History<T>,
     first: T,
     second: T,
-) -> Result<(), Refused<T>>
-    ensures { IfOk result (λ _. history.new ≡ (present history.old ++ first ∷ []) ∷ history.old) }
+) -> Result<u32, Refused<T>>
+    ensures first { IfOk result (λ _. history.new ≡ (present history.old ++ first ∷ []) ∷ history.old) }
+    ensures between { IfOk result (λ count. count ≡ length (present history.old) + 2) }
+    ensures refused { IfErr result (λ r. (r.element ≡ first) × (history.new ≡ history.old) ⊎ (r.element ≡ second) × (history.new ≡ (present history.old ++ first ∷ []) ∷ history.old)) }
 {
     history.push(first)?;
     push_and_undo(history, second)
@@ -55,7 +63,10 @@ fn main(rt: HostRuntime) -> Result<()> {
     run(&rt, &mut moves, (here, there, here))
 }
 
-fn run(rt: &HostRuntime, moves: &mut History<Place>, places: (Place, Place, Place)) -> Result<()> {
+// Of three moves the first is left.
+fn run(rt: &HostRuntime, moves: &mut History<Place>, places: (Place, Place, Place)) -> Result<()>
+    ensures { IfOk result (λ _. present moves.new ≡ present moves.old ++ places.0 ∷ []) }
+{
     moves.push(places.0)?;
     push_two_undo_one(moves, places.1, places.2)?;
     show(rt, moves)?;

@@ -9,7 +9,6 @@ use Rattle.std.specs.FinMap.{find, is_sorted, put}
 use Rattle.std.specs.declared.cmp.Ordering.{Ordering}
 use Rattle.std.specs.declared.cmp.Ordering.TheVariants.{Less, Equal}
 use Rattle.std.proofs.lemmas.List.Elements.{All-cons, All-head, All-nil, All-tail}
-use Rattle.node_heap.specs.Links.{here}
 use Rattle.node_heap.specs.Forms.{cell, value_of, links_of}
 use Rattle.node_heap.specs.Heap.{Heap, row_at, form_at, links_at, holds_at, hold_count, one_at}
 use Rattle.node_heap.specs.Calls.{Adds, Answered, KeepsBelow, Extends, Unchanged}

@@ -1,13 +1,17 @@
--- What becomes of the versions that a program keeps.
+-- What becomes of the versions that a program keeps, and what merged ones have.
 use Rattle.std.proofs.Common.{◌≡◌, ◌≢◌, ℕ, List, [], ◌∷◌, map, ap, sym, subst, ◌∙◌, Option, Some, None, Result, Ok, Err, cond, refl, inl, inr}
 use Rattle.std.specs.Prelude.{IsSome, IfOk, OnOk, unwrap_or}
-use Rattle.std.specs.Ordering.{nat_cmp, eq_by_cmp}
-use Rattle.std.specs.Cmp.{nat_cmp_total}
-use Rattle.std.specs.FinMap.{get, insert, remove, get-insert, get-remove, same_map, nat_cmp-IsAntisymmetric}
+use Rattle.std.specs.Ordering.{nat_cmp, eq_by_cmp, is_eq}
+use Rattle.std.specs.Cmp.{IsTotalOrder, nat_cmp_total, tied_itself}
+use Rattle.std.specs.declared.cmp.Ordering.{Ordering}
+use Rattle.std.specs.FinMap.Entries.{find-put}
+use Rattle.std.specs.FinMap.{find, get, insert, put, remove, get-insert, get-remove, same_map, nat_cmp-IsAntisymmetric}
 use Rattle.std.proofs.lemmas.Bool.{cases_eq}
 use Rattle.versions.specs.Store.{Versions, Holds, list_of}
 use Rattle.versions.specs.History.{IsApart, AreHeld, lists_of}
+use Rattle.versions.specs.Sorted.{entries_of}
 use Rattle.versions.proofs.RootLemmas.{tied-same, tied-other}
+pub use Rattle.versions.proofs.UnionLemmas.{found-union, has-both, has-less, has-union}
 
 module _ {V : Type 0} (m : Versions V) where
   -- a version that was made, and those beside it
@@ -128,3 +132,8 @@ module _ {T : Type 0} (m : Versions (List T)) where
 
   pub lists-kept-left : (n : Versions (List T)) (v : ℕ) (vs ws : List ℕ) → n ≡ remove m v → vs ≡ ws → AreHeld m (v ∷ vs) → lists_of n ws ≡ lists_of m vs
   lists-kept-left n v vs ws left same held = ap (lists_of n) (sym same) ∙ ap (λ k. lists_of k vs) left ∙ lists-left v vs held
+
+-- the value at the key of a version that was made with it
+pub found-made : {K V : Type 0} (cmp : K → K → Ordering) → IsTotalOrder cmp → (m n : Versions (List (K × V))) (v : ℕ) (key : K) (value : V) (es : List (K × V)) → n ≡ insert m v (put cmp key value es) → find cmp key (entries_of n v) ≡ Some value
+found-made cmp o m n v key value es made =
+    ap (λ k. find cmp key (entries_of k v)) made ∙ ap (λ x. find cmp key (unwrap_or x [])) (get-made m v (put cmp key value es)) ∙ find-put cmp o key key value es ∙ ap (λ r. cond (is_eq r) (Some value) (find cmp key es)) (tied_itself o key)

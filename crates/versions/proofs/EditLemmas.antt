@@ -8,7 +8,8 @@ use Rattle.node_heap.specs.Links.{count, here}
 use Rattle.node_heap.specs.Forms.{cell, value_of}
 use Rattle.node_heap.specs.Heap.{Heap, row_at, holds_at, hold_count, one_at, IsGraph}
 use Rattle.node_heap.specs.Calls.{Adds, Extends, Releases, KeepsHeld}
-use Rattle.node_heap.specs.Owner.{by_hold, EditsBy}
+use Rattle.node_heap.specs.declared.owner.Owner.TheVariants.{Hold as by_hold}
+use Rattle.node_heap.specs.Owner.{EditsBy}
 use Rattle.node_heap.proofs.CallerLemmas.{count-link, count-one, test_same, test_other, Extends-trans, Extends-row, KeepsHeld-EditsBy}
 use Rattle.rrb_core.specs.Vector.{elements, height_at, IsVectorOf}
 use Rattle.rrb_core.proofs.CallerLemmas.{all-counted, count-part, seq-live}

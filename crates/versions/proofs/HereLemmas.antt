@@ -1,4 +1,4 @@
--- Sets and maps that are edited in place of others.
+-- Maps that are edited in place of others, and what an edit by a hold makes of a root.
 use Rattle.std.proofs.Common.{◌≡◌, ℕ, ◌+◌, ◌<◌, ◌≤◌, not, List, [], ◌∷◌, length, Option, Some, None, refl, ap, sym, ◌∙◌, subst, arith}
 use Rattle.std.specs.Prelude.{IsSome, is_some}
 use Rattle.std.specs.Cmp.{IsTotalOrder}
@@ -11,7 +11,8 @@ use Rattle.node_heap.specs.Links.{count, here}
 use Rattle.node_heap.specs.Forms.{cell, value_of}
 use Rattle.node_heap.specs.Heap.{Heap, row_at, holds_at, hold_count, one_at, IsGraph}
 use Rattle.node_heap.specs.Calls.{Adds, Extends, KeepsBelow, KeepsHeld, Releases, Unchanged}
-use Rattle.node_heap.specs.Owner.{by_hold, EditsBy}
+use Rattle.node_heap.specs.declared.owner.Owner.TheVariants.{Hold as by_hold}
+use Rattle.node_heap.specs.Owner.{EditsBy}
 use Rattle.node_heap.proofs.CallerLemmas.{count-link, count-one, test_same, Extends-row, Extends-trans, KeepsHeld-EditsBy}
 use Rattle.node_heap.proofs.Frames.{Reaches-live}
 use Rattle.champ_kinds.specs.Root.{Root}
@@ -22,7 +23,7 @@ use Rattle.edit_trie.specs.Edit.{by_bits, CutsKey, PutsValue}
 use Rattle.edit_trie.proofs.CallerLemmas.{cuts-keep-values, edits-keep-values}
 use Rattle.versions.specs.declared.piece.Piece.{Piece}
 use Rattle.versions.specs.declared.piece.Piece.TheVariants.{Key, Value}
-use Rattle.versions.specs.Roots.{Edits, IsKind, Makes}
+use Rattle.versions.specs.Roots.{Edits, IsKind}
 use Rattle.versions.specs.Rooted.{value_at}
 use Rattle.versions.specs.Sorted.{remove_entry}
 use Rattle.versions.specs.Keyed.{by_root}
@@ -78,15 +79,6 @@ module _ {T V : Type 0} {Is : Heap T → ℕ → V → Type 0} {read : Heap T �
         holds = λ q. omega (arith, holds q, gone.holds q);
         count = omega (arith, more, did.trades.total, ap length some, gone.count);
       }
-
--- a root that was made beside another, whose hold was given up then
-pub made-over : {T V : Type 0} {Is : Heap T → ℕ → V → Type 0} {read : Heap T → ℕ → V} → IsKind Is read → {a m d : Heap T} (l n : ℕ) {x : V} → 0 < holds_at a l → Makes Is a m n x → Releases m d l → KeepsHeld (one_at l) m d → Edits Is a d l n x
-made-over kind {a} {m} {d} l n {x} held made gone left = record {
-  is = kind.stays m d n x (left.kept n (omega (arith, made.holds n, one-held a l n held, test_same n n refl))) made.is;
-  keeps = λ k y beside is. kind.stays m d k y (left.kept k (omega (arith, made.holds k, beside))) (made.keeps k y is);
-  holds = λ k. omega (arith, made.holds k, gone.holds k);
-  count = omega (arith, made.count, gone.count);
-}
 
 module _ {K V : Type 0} (cmp : K → K → Ordering) (value_cmp : V → V → Ordering) (o : IsTotalOrder cmp) (p : IsTotalOrder value_cmp) (code : K → ℕ) (old new : Heap (Piece K V)) (v w bits : ℕ) (key : K) (es : List (K × V)) (is : IsKeyMap cmp value_cmp code old v es) (graph : IsGraph old) (held : 0 < holds_at old v) (all : bits ≡ CODE_BITS) where
   abbrev order : Piece K V → Piece K V → Ordering

@@ -10,10 +10,11 @@ pub mod WholeLemmas
 pub mod SortLemmas
 pub mod KeyedLemmas
 pub mod BoundLemmas
-pub mod MapLemmas
+pub mod AlikeLemmas
 pub mod UnionLemmas
 pub mod MergeLemmas
 pub mod StoreLemmas
 pub mod EqualLemmas
 pub mod EntryLemmas
 pub mod HereLemmas
+pub mod KeyHereLemmas

@@ -4,10 +4,10 @@ use Rattle.std.specs.Prelude.{option_map, unwrap_or}
 use Rattle.std.specs.FinMap.{get}
 use Rattle.node_heap.specs.Heap.{Heap, holds_at}
 use Rattle.versions.specs.Store.{Versions}
-use Rattle.versions.specs.Roots.{Edits, HasRoots, IsKind, KeepsRoots, PutsRoot, PutsVersion, root_of, values_in}
+use Rattle.versions.specs.Roots.{AddsRoot, AddsVersion, Edits, HasRoots, IsKind, KeepsRoots, Makes, PutsRoot, PutsVersion, root_of, values_in}
 use Rattle.versions.proofs.KeyedLemmas.{seen-value}
 use Rattle.versions.proofs.RootLemmas.{listed-at, sum-has}
-use Rattle.versions.proofs.MadeLemmas.{roots-stay, stays-extended, still-seen, version-put}
+use Rattle.versions.proofs.MadeLemmas.{adds-version, roots-stay, stays-extended, still-seen, version-put}
 
 module _ {T X : Type 0} {Is : Heap T → ℕ → List X → Type 0} {read : Heap T → ℕ → List X} (kind : IsKind Is read) {old : Heap T} {roots : List (Option ℕ)} {had : Versions (List X)} (has : HasRoots Is read old roots) (seen : values_in read old roots ≡ had) where
   -- the root of a version stands for its value
@@ -36,6 +36,12 @@ module _ {T X : Type 0} {Is : Heap T → ℕ → List X → Type 0} {read : Heap
 
     pub room-value : (v l : ℕ) → root_of roots v ≡ Some l → Is mid l (unwrap_or (get had v) [])
     room-value v l at = stays-extended Is read kind old mid keeps.extends l (unwrap_or (get had v) []) (root-value v l at)
+
+    -- what a call made of two versions is kept
+    pub merged-version : {new : Heap T} {roots' : List (Option ℕ)} {v l m n : ℕ} {merge : List X → List X → List X} (first second : ℕ) → root_of roots first ≡ Some l → root_of roots second ≡ Some m
+        → ((xs ys : List X) → Is mid l xs → Is mid m ys → Makes Is mid new n (merge xs ys)) → AddsRoot between roots' v n → AddsVersion Is read had new roots' v (merge (unwrap_or (get had first) []) (unwrap_or (get had second) []))
+    merged-version {l = l} {m = m} first second one other made adds =
+        adds-version Is read kind has seen keeps (made _ _ (room-value first l one) (room-value second m other)) adds
 
     -- and a call was refused after it
     pub refused-stands : {new : Heap T} → new ≡ mid → HasRoots Is read new between

@@ -1,16 +1,18 @@
 //! The roots of maps that are edited in place.
-ghost use Rattle.std.specs.Prelude.{◌≡◌, ◌<◌, List, [], IfOk, IfErr, OnErr};
+ghost use Rattle.std.specs.Prelude.{◌≡◌, ◌+◌, ◌<◌, ◌≤◌, List, [], map, IfOk, IfErr, OnOk, OnErr};
 ghost use Rattle.std.specs.FinMap.{put};
 ghost use Rattle.elem_core.specs.declared.codes.TheConstants.{CODE_BITS};
 ghost use Rattle.node_heap.specs.Heap.{holds_at, hold_count, half_holds, quarter_holds, HasSpares};
 ghost use Rattle.node_heap.specs.Calls.{Extends};
-ghost use Rattle.node_heap.specs.Owner.{by_hold, EditsBy};
+ghost use Rattle.node_heap.specs.declared.owner.Owner.TheVariants.{Hold as by_hold};
+ghost use Rattle.node_heap.specs.Owner.{EditsBy};
 ghost use Rattle.champ_kinds.specs.Binding.{Binding};
 ghost use Rattle.champ_kinds.specs.Kinds.{IsMapOf};
 ghost use Rattle.versions.specs.Roots.{Edits};
-ghost use Rattle.versions.specs.Keyed.{by_root};
+ghost use Rattle.versions.specs.Keyed.{by_root, alike};
 ghost use Rattle.versions.specs.Sorted.{remove_entry};
 ghost use Rattle.versions.specs.Bound.{IsKeyMap};
+ghost use Rattle.versions.specs.declared.bound_here.TheConstants.{BOUND_HERE_NODES, UNBOUND_HERE_NODES};
 
 use crate::piece::{KeyOf, Piece};
 use champ_kinds::{INSERT_NODES, Map};
@@ -18,6 +20,12 @@ use champ_trie::look_up;
 use edit_trie::{MapOpenFault, TrieEdit};
 use elem_core::{CODE_BITS, Element, LEVELS, NoMemory, Probe};
 use node_heap::{Heap, Link};
+
+// The most nodes that an insertion makes beside one for each key with the same code, with that for a root of one's own.
+pub(crate) const BOUND_HERE_NODES: usize = INSERT_NODES + 1;
+
+// The same of a removal.
+pub(crate) const UNBOUND_HERE_NODES: usize = LEVELS as usize + 1;
 
 // The map of a root, opened for edits in place.
 fn opened<T: Element>(heap: &mut Heap<T>, root: Link) -> TrieEdit
@@ -50,14 +58,15 @@ pub(crate) fn bound_here<K: Element, V: Ord + Drop>(
     requires map { (es : List (K × V)) × IsKeyMap K.cmp V.cmp K.code_of heap.old root es }
     requires few { hold_count heap.old < quarter_holds }
     requires held { 0 < holds_at heap.old root }
-    ensures made { (es : List (K × V)) → IsKeyMap K.cmp V.cmp K.code_of heap.old root es →
+    ensures edits { (es : List (K × V)) → IsKeyMap K.cmp V.cmp K.code_of heap.old root es →
         IfOk result (λ l. Edits (IsKeyMap K.cmp V.cmp K.code_of) heap.old heap.new root l (put K.cmp key value es)) }
+    ensures made { (es : List (K × V)) → IsKeyMap K.cmp V.cmp K.code_of heap.old root es →
+        OnOk result (heap.new.made ≤ heap.old.made + (2 + BOUND_HERE_NODES + alike K.code_of key (map (λ e. e.0) es))) }
     ensures back { IfErr result (λ entry. entry ≡ (key, value)) }
     ensures refused { OnErr result (heap.new ≡ heap.old) }
 {
     let found = look_up(heap, root, &KeyOf(&key), CODE_BITS);
-    // With a node for a root of one's own.
-    if heap.reserve(2, found.alike + INSERT_NODES + 1).is_err() {
+    if heap.reserve(2, found.alike + BOUND_HERE_NODES).is_err() {
         return Err((key, value));
     }
     let cell = heap.cell(Piece::Value(value));
@@ -81,13 +90,15 @@ pub(crate) fn unbound_here<K: Element, V: Ord + Drop, P: Probe<K>>(
     requires map { (es : List (K × V)) × IsKeyMap K.cmp V.cmp K.code_of heap.old root es }
     requires few { hold_count heap.old < quarter_holds }
     requires held { 0 < holds_at heap.old root }
-    ensures made { (es : List (K × V)) → IsKeyMap K.cmp V.cmp K.code_of heap.old root es →
+    ensures edits { (es : List (K × V)) → IsKeyMap K.cmp V.cmp K.code_of heap.old root es →
         IfOk result (λ l. Edits (IsKeyMap K.cmp V.cmp K.code_of) heap.old heap.new root l (remove_entry K.cmp es (P.stands_for key.now))) }
+    ensures made { (es : List (K × V)) → IsKeyMap K.cmp V.cmp K.code_of heap.old root es →
+        OnOk result (heap.new.made ≤ heap.old.made + (UNBOUND_HERE_NODES + alike K.code_of (P.stands_for key.now) (map (λ e. e.0) es))) }
     ensures refused { OnErr result (heap.new ≡ heap.old) }
 {
     let probe = KeyOf(key);
     let found = look_up(heap, root, &probe, CODE_BITS);
-    heap.reserve(0, found.alike + usize::from(LEVELS) + 1)?;
+    heap.reserve(0, found.alike + UNBOUND_HERE_NODES)?;
     let mut edit = opened(heap, root);
     match edit.remove(heap, &probe) {
         Ok(Some(given)) => {

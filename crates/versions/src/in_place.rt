@@ -3,7 +3,8 @@
 ghost use Rattle.std.specs.Prelude.{◌≡◌, ◌≢◌, ◌+◌, ◌-◌, ◌^◌, ◌<◌, ◌≤◌, List, [], ◌∷◌, ◌++◌, length, take, slice_set};
 ghost use Rattle.node_heap.specs.Heap.{holds_at, hold_count, half_holds, quarter_holds, HasSpares};
 ghost use Rattle.node_heap.specs.Calls.{Extends};
-ghost use Rattle.node_heap.specs.Owner.{by_hold, EditsBy};
+ghost use Rattle.node_heap.specs.declared.owner.Owner.TheVariants.{Hold as by_hold};
+ghost use Rattle.node_heap.specs.Owner.{EditsBy};
 ghost use Rattle.rrb_core.specs.declared.grow.TheConstants.{PUSH_NODES};
 ghost use Rattle.rrb_core.specs.Vector.{elements, IsGoodVector, IsVectorOf};
 ghost use Rattle.edit_vec.specs.declared.pop.TheConstants.{POP_NODES};

@@ -32,5 +32,6 @@ pub use items::Items;
 pub use keys::Keys;
 pub use lists::Lists;
 pub use maps::Maps;
+pub use piece::Piece;
 pub use roots::{Handles, Version};
 pub use sets::Sets;

@@ -30,8 +30,8 @@ use std::marker::Model;
 /// versions share what they have in common. A store that is dropped gives all of them back.
 #[derive(Drop)]
 pub struct Maps<K: Element, V: Ord + Drop> {
-    heap: Heap<Piece<K, V>>,
-    roots: Slab<Link>,
+    pub(crate) heap: Heap<Piece<K, V>>,
+    pub(crate) roots: Slab<Link>,
 }
 
 impl<K: Element, V: Ord + Drop> Model for Maps<K, V> {

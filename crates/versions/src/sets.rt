@@ -162,8 +162,8 @@ impl<K: Element> Sets<K> {
         Ok(keep(&mut self.roots, root))
     }
 
-    /// Puts the key into this version itself; an equal key that is there stays. Every other version stays. The rows on the
-    /// key's way are made anew, and those that no other version has are given back. Refused only where memory runs out.
+    /// Puts the key into this version itself, in place where its rows are its own; an equal key that is there stays. Every other
+    /// version stays. Refused only where memory runs out.
     pub fn insert_here(&mut self, version: Version, key: K) -> Result<(), Refused<K>>
         requires { Holds self.old version }
         ensures made { IfOk result (λ _. self.new ≡ map.insert self.old version (insert_key K.cmp (keys_of self.old version) key)) }
@@ -181,8 +181,7 @@ impl<K: Element> Sets<K> {
         }
     }
 
-    /// Takes the key out of this version itself. Every other version stays. The rows on the key's way are made anew, and those
-    /// that no other version has are given back.
+    /// Takes the key out of this version itself, in place where its rows are its own. Every other version stays.
     pub fn remove_here<P: Probe<K>>(&mut self, version: Version, key: &P) -> Result<(), NoMemory>
         requires { Holds self.old version }
         ensures made { IfOk result (λ _. self.new ≡ map.insert self.old version (remove_key K.cmp (keys_of self.old version) (P.stands_for key.now))) }

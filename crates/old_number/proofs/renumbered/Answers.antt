@@ -1,8 +1,7 @@
 use Rattle.std.proofs.Common.{Result, Ok, Err}
 use Rattle.std.specs.Prelude.{IfOk}
 use Rattle.versions.specs.Sorted.{entries_of}
-use Rattle.versions.proofs.CallerLemmas.{new-held, made-held, made-keeps}
-use Rattle.versions.proofs.MapLemmas.{found-made}
+use Rattle.versions.proofs.CallerLemmas.{new-held, made-held, made-keeps, found-made}
 use Rattle.old_number.proofs.renumbered.Goals as goal
 
 on-each : {A E : Type 0} {P Q S : A → Type 0} (r : Result A E) → ((a : A) → P a → Q a → S a) → IfOk r P → IfOk r Q → IfOk r S

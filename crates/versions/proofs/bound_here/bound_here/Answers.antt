@@ -2,7 +2,7 @@ use Rattle.std.proofs.Common.{◌≡◌, ◌+◌, Some, None, refl, ap, sym, sub
 use Rattle.std.specs.Prelude.{IsOk}
 use Rattle.elem_core.specs.declared.codes.TheConstants.{CODE_BITS}
 use Rattle.node_heap.specs.Heap.{form_at, holds_at, one_at}
-use Rattle.node_heap.specs.Owner.{by_hold}
+use Rattle.node_heap.specs.declared.owner.Owner.TheVariants.{Hold as by_hold}
 use Rattle.node_heap.proofs.CallerLemmas.{Extends-trans}
 use Rattle.champ_kinds.specs.Binding.{alike_keys}
 use Rattle.champ_kinds.proofs.PairLemmas.{alike-pairs}
@@ -13,6 +13,7 @@ use Rattle.versions.specs.Keyed.{by_root}
 use Rattle.versions.specs.Pieces.{piece_code}
 use Rattle.versions.proofs.CallLemmas.{on-ok}
 use Rattle.versions.proofs.BoundLemmas.{as-order, of-order, order-same, trie-as, trie-order}
+use Rattle.versions.proofs.AlikeLemmas.{put-few}
 use Rattle.versions.proofs.HereLemmas.{put-alone, put-both, put-given, put-over}
 use Rattle.versions.proofs.bound_here.bound_here.Goals as goal
 
@@ -68,8 +69,8 @@ release-requires g c =
     (order-same g.K.Ord.cmp g.V.Ord.cmp g.met.K.Ord.total g.met.V.Ord.total _ (record { keys = λ a b. refl; before = λ a w. refl; after = λ v b. refl; values = λ v w. refl })) (rw c.in-Ok-Some.field-0-is at (c.in-Ok-Some.ensures.puts is.bindings opened)) in
     put-given g.K.Ord.cmp g.V.Ord.cmp g.met.K.Ord.total g.met.V.Ord.total g.K.Element.code_of c.args.heap.now c.reserve.new.self c.args.root c.requires.held c.reserve.ensures.rest c.reserve.ensures.extends c.cell-cell.new.self c.opened-edit.new.heap c.cell-cell.result c.args.value c.opened-edit.result c.cell-cell.ensures.adds c.cell-cell.ensures.extends c.cell-cell.ensures.count c.opened-edit.ensures.extends c.opened-edit.ensures.edits c.opened-edit.ensures.bits es is c.args.key made c.insert.new.heap c.insert.new.self.root c.in-Ok-Some.ensures.value c.in-Ok-Some.given puts
 
-pub returns-in-Ok-Some-clause-made : goal.returns-in-Ok-Some-clause-made
-returns-in-Ok-Some-clause-made g c = λ es is.
+pub returns-in-Ok-Some-clause-edits : goal.returns-in-Ok-Some-clause-edits
+returns-in-Ok-Some-clause-edits g c = λ es is.
     let opened = c.opened-edit.ensures.map is.bindings ((containers-extended c.args.heap.now c.cell-cell.new.self (Extends-trans c.reserve.ensures.extends c.cell-cell.ensures.extends) (by_root c.args.root)).map _ _ is.bindings (as-order g.K.Ord.cmp g.V.Ord.cmp g.met.K.Ord.total g.met.V.Ord.total g.K.Element.code_of is.stands (record { keys = λ a b. refl; before = λ a w. refl; after = λ v b. refl; values = λ v w. refl }))) in
     let made = of-order g.K.Ord.cmp g.V.Ord.cmp g.met.K.Ord.total g.met.V.Ord.total g.K.Element.code_of (λ _. is.bindings) opened (record { keys = λ a b. refl; before = λ a w. refl; after = λ v b. refl; values = λ v w. refl }) in
     let puts = subst (λ q. PutsValue q (piece_code g.K.Element.code_of) (by_hold c.opened-edit.result.root) c.opened-edit.result.bits c.opened-edit.new.heap c.insert.new.heap c.insert.new.self.root is.bindings (Key c.args.key) c.cell-cell.result (Some c.in-Ok-Some.given))
@@ -77,14 +78,26 @@ returns-in-Ok-Some-clause-made g c = λ es is.
     rw c.into_root.ensures (rw c.freeze.ensures
     (put-over g.K.Ord.cmp g.V.Ord.cmp g.met.K.Ord.total g.met.V.Ord.total g.K.Element.code_of c.args.heap.now c.reserve.new.self c.args.root c.requires.held c.reserve.ensures.rest c.reserve.ensures.extends c.cell-cell.new.self c.opened-edit.new.heap c.cell-cell.result c.args.value c.opened-edit.result c.cell-cell.ensures.adds c.cell-cell.ensures.extends c.cell-cell.ensures.count c.opened-edit.ensures.extends c.opened-edit.ensures.edits c.opened-edit.ensures.bits es is c.args.key made c.insert.new.heap c.insert.new.self.root c.in-Ok-Some.ensures.value c.release.new.self c.in-Ok-Some.given puts c.release.ensures.releases c.release.ensures.keeps))
 
-pub returns-in-Ok-None-clause-made : goal.returns-in-Ok-None-clause-made
-returns-in-Ok-None-clause-made g c = λ es is.
+pub returns-in-Ok-None-clause-edits : goal.returns-in-Ok-None-clause-edits
+returns-in-Ok-None-clause-edits g c = λ es is.
     let opened = c.opened-edit.ensures.map is.bindings ((containers-extended c.args.heap.now c.cell-cell.new.self (Extends-trans c.reserve.ensures.extends c.cell-cell.ensures.extends) (by_root c.args.root)).map _ _ is.bindings (as-order g.K.Ord.cmp g.V.Ord.cmp g.met.K.Ord.total g.met.V.Ord.total g.K.Element.code_of is.stands (record { keys = λ a b. refl; before = λ a w. refl; after = λ v b. refl; values = λ v w. refl }))) in
     let made = of-order g.K.Ord.cmp g.V.Ord.cmp g.met.K.Ord.total g.met.V.Ord.total g.K.Element.code_of (λ _. is.bindings) opened (record { keys = λ a b. refl; before = λ a w. refl; after = λ v b. refl; values = λ v w. refl }) in
     let puts = subst (λ q. PutsValue q (piece_code g.K.Element.code_of) (by_hold c.opened-edit.result.root) c.opened-edit.result.bits c.opened-edit.new.heap c.insert.new.heap c.insert.new.self.root is.bindings (Key c.args.key) c.cell-cell.result None)
     (order-same g.K.Ord.cmp g.V.Ord.cmp g.met.K.Ord.total g.met.V.Ord.total _ (record { keys = λ a b. refl; before = λ a w. refl; after = λ v b. refl; values = λ v w. refl })) (rw c.in-Ok-None.field-0-is at (c.in-Ok-None.ensures.puts is.bindings opened)) in
     rw c.into_root-in-Ok-None.ensures (rw c.freeze-in-Ok-None.ensures
     (put-alone g.K.Ord.cmp g.V.Ord.cmp g.met.K.Ord.total g.met.V.Ord.total g.K.Element.code_of c.args.heap.now c.reserve.new.self c.args.root c.requires.held c.reserve.ensures.rest c.reserve.ensures.extends c.cell-cell.new.self c.opened-edit.new.heap c.cell-cell.result c.args.value c.opened-edit.result c.cell-cell.ensures.adds c.cell-cell.ensures.extends c.cell-cell.ensures.count c.opened-edit.ensures.extends c.opened-edit.ensures.edits c.opened-edit.ensures.bits es is c.args.key made c.insert.new.heap c.insert.new.self.root c.in-Ok-None.ensures.value puts))
+
+pub returns-in-Ok-Some-clause-made : goal.returns-in-Ok-Some-clause-made
+returns-in-Ok-Some-clause-made g c = λ es is.
+    let opened = c.opened-edit.ensures.map is.bindings ((containers-extended c.args.heap.now c.cell-cell.new.self (Extends-trans c.reserve.ensures.extends c.cell-cell.ensures.extends) (by_root c.args.root)).map _ _ is.bindings (as-order g.K.Ord.cmp g.V.Ord.cmp g.met.K.Ord.total g.met.V.Ord.total g.K.Element.code_of is.stands (record { keys = λ a b. refl; before = λ a w. refl; after = λ v b. refl; values = λ v w. refl }))) in
+    let puts = c.in-Ok-Some.ensures.puts is.bindings opened in
+    put-few g.K.Ord.cmp g.V.Ord.cmp g.met.K.Ord.total g.met.V.Ord.total g.K.Element.code_of c.args.heap.now c.args.root c.args.key es is c.reserve.ensures.rest.made c.cell-cell.ensures.makes.made c.opened-edit.ensures.edits.trades.made c.opened-edit.ensures.bits puts.edits.trades.made c.release.ensures.releases.made
+
+pub returns-in-Ok-None-clause-made : goal.returns-in-Ok-None-clause-made
+returns-in-Ok-None-clause-made g c = λ es is.
+    let opened = c.opened-edit.ensures.map is.bindings ((containers-extended c.args.heap.now c.cell-cell.new.self (Extends-trans c.reserve.ensures.extends c.cell-cell.ensures.extends) (by_root c.args.root)).map _ _ is.bindings (as-order g.K.Ord.cmp g.V.Ord.cmp g.met.K.Ord.total g.met.V.Ord.total g.K.Element.code_of is.stands (record { keys = λ a b. refl; before = λ a w. refl; after = λ v b. refl; values = λ v w. refl }))) in
+    let puts = c.in-Ok-None.ensures.puts is.bindings opened in
+    put-few g.K.Ord.cmp g.V.Ord.cmp g.met.K.Ord.total g.met.V.Ord.total g.K.Element.code_of c.args.heap.now c.args.root c.args.key es is c.reserve.ensures.rest.made c.cell-cell.ensures.makes.made c.opened-edit.ensures.edits.trades.made c.opened-edit.ensures.bits puts.edits.trades.made refl
 
 pub unreachable-requires : goal.unreachable-requires
 unreachable-requires g c =

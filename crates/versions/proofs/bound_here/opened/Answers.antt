@@ -1,5 +1,6 @@
 use Rattle.std.proofs.Common.{[], ap, subst, ◌∙◌}
-use Rattle.node_heap.specs.Owner.{by_hold, EditsBy}
+use Rattle.node_heap.specs.declared.owner.Owner.TheVariants.{Hold as by_hold}
+use Rattle.node_heap.specs.Owner.{EditsBy}
 use Rattle.champ_kinds.specs.Root.{Root}
 use Rattle.champ_kinds.proofs.StayLemmas.{map-seen}
 use Rattle.versions.specs.Keyed.{by_root}

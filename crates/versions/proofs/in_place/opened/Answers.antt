@@ -1,5 +1,6 @@
 use Rattle.std.proofs.Common.{[], subst}
-use Rattle.node_heap.specs.Owner.{by_hold, EditsBy}
+use Rattle.node_heap.specs.declared.owner.Owner.TheVariants.{Hold as by_hold}
+use Rattle.node_heap.specs.Owner.{EditsBy}
 use Rattle.rrb_core.specs.Vector.{elements, IsVectorOf}
 use Rattle.versions.proofs.in_place.opened.Goals as goal
 

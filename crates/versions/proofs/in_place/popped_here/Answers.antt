@@ -1,5 +1,5 @@
 use Rattle.std.proofs.Common.{◌+◌, ◌≤◌, arith}
-use Rattle.node_heap.specs.Owner.{by_hold}
+use Rattle.node_heap.specs.declared.owner.Owner.TheVariants.{Hold as by_hold}
 use Rattle.rrb_core.specs.Vector.{height_at}
 use Rattle.edit_vec.specs.Edit.{PopsElement}
 use Rattle.versions.proofs.EditLemmas.{pop-given, popped-here}

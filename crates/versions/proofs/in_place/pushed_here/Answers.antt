@@ -1,7 +1,7 @@
 use Rattle.std.proofs.Common.{◌≡◌, ◌+◌, ◌<◌, ◌≤◌, inl, inr, arith, length}
 use Rattle.std.specs.Prelude.{◌^◌}
 use Rattle.std.proofs.lemmas.Bool.{cases_lt}
-use Rattle.node_heap.specs.Owner.{by_hold}
+use Rattle.node_heap.specs.declared.owner.Owner.TheVariants.{Hold as by_hold}
 use Rattle.rrb_core.specs.Vector.{elements, height_at}
 use Rattle.rrb_core.proofs.CallerLemmas.{extended-same}
 use Rattle.edit_vec.specs.Edit.{PushesElement}

@@ -26,13 +26,13 @@ put-requires-clause-few g c = c.self.invariant.holds.few
 
 pub invariant_of-self : goal.invariant_of-self
 invariant_of-self g c =
-    let made = c.in-Ok.ensures.made (entries_of c.args.self.now c.args.version) (root-value (map-kind g.K.Ord.cmp g.V.Ord.cmp g.met.K.Ord.total g.met.V.Ord.total g.K.Element.code_of) c.self.invariant c.self.view_is c.args.version c.root_of-root.result c.root_of-root.ensures) in
+    let made = c.in-Ok.ensures.edits (entries_of c.args.self.now c.args.version) (root-value (map-kind g.K.Ord.cmp g.V.Ord.cmp g.met.K.Ord.total g.met.V.Ord.total g.K.Element.code_of) c.self.invariant c.self.view_is c.args.version c.root_of-root.result c.root_of-root.ensures) in
     let done = puts-here (map-kind g.K.Ord.cmp g.V.Ord.cmp g.met.K.Ord.total g.met.V.Ord.total g.K.Element.code_of) c.self.invariant c.self.view_is c.root_of-root.ensures made c.put.ensures in
     done.stands
 
 pub returns-in-Ok-clause-made : goal.returns-in-Ok-clause-made
 returns-in-Ok-clause-made g c =
-    let made = c.in-Ok.ensures.made (entries_of c.args.self.now c.args.version) (root-value (map-kind g.K.Ord.cmp g.V.Ord.cmp g.met.K.Ord.total g.met.V.Ord.total g.K.Element.code_of) c.self.invariant c.self.view_is c.args.version c.root_of-root.result c.root_of-root.ensures) in
+    let made = c.in-Ok.ensures.edits (entries_of c.args.self.now c.args.version) (root-value (map-kind g.K.Ord.cmp g.V.Ord.cmp g.met.K.Ord.total g.met.V.Ord.total g.K.Element.code_of) c.self.invariant c.self.view_is c.args.version c.root_of-root.result c.root_of-root.ensures) in
     let done = puts-here (map-kind g.K.Ord.cmp g.V.Ord.cmp g.met.K.Ord.total g.met.V.Ord.total g.K.Element.code_of) c.self.invariant c.self.view_is c.root_of-root.ensures made c.put.ensures in
     done.made
 

@@ -20,12 +20,12 @@ unbound_here-requires-clause-held g c = root-held (map-kind g.K.Ord.cmp g.V.Ord.
 
 pub invariant_of-self-2 : goal.invariant_of-self-2
 invariant_of-self-2 g c =
-    let made = c.in_ok-root.ensures.made (entries_of c.args.self.now c.args.version) (root-value (map-kind g.K.Ord.cmp g.V.Ord.cmp g.met.K.Ord.total g.met.V.Ord.total g.K.Element.code_of) c.self.invariant c.self.view_is c.args.version c.root_of-root.result c.root_of-root.ensures) in
+    let made = c.in_ok-root.ensures.edits (entries_of c.args.self.now c.args.version) (root-value (map-kind g.K.Ord.cmp g.V.Ord.cmp g.met.K.Ord.total g.met.V.Ord.total g.K.Element.code_of) c.self.invariant c.self.view_is c.args.version c.root_of-root.result c.root_of-root.ensures) in
     let done = puts-here (map-kind g.K.Ord.cmp g.V.Ord.cmp g.met.K.Ord.total g.met.V.Ord.total g.K.Element.code_of) c.self.invariant c.self.view_is c.root_of-root.ensures made c.put.ensures in
     done.stands
 
 pub returns-clause-made : goal.returns-clause-made
 returns-clause-made g c =
-    let made = c.in_ok-root.ensures.made (entries_of c.args.self.now c.args.version) (root-value (map-kind g.K.Ord.cmp g.V.Ord.cmp g.met.K.Ord.total g.met.V.Ord.total g.K.Element.code_of) c.self.invariant c.self.view_is c.args.version c.root_of-root.result c.root_of-root.ensures) in
+    let made = c.in_ok-root.ensures.edits (entries_of c.args.self.now c.args.version) (root-value (map-kind g.K.Ord.cmp g.V.Ord.cmp g.met.K.Ord.total g.met.V.Ord.total g.K.Element.code_of) c.self.invariant c.self.view_is c.args.version c.root_of-root.result c.root_of-root.ensures) in
     let done = puts-here (map-kind g.K.Ord.cmp g.V.Ord.cmp g.met.K.Ord.total g.met.V.Ord.total g.K.Element.code_of) c.self.invariant c.self.view_is c.root_of-root.ensures made c.put.ensures in
     done.made

@@ -26,13 +26,13 @@ put-requires-clause-few g c = c.self.invariant.holds.few
 
 pub invariant_of-self : goal.invariant_of-self
 invariant_of-self g c =
-    let made = c.in-Ok.ensures.made (keys_of c.args.self.now c.args.version) (root-value (set-kind g.K.Ord.cmp g.met.K.Ord.total g.K.Element.code_of) c.self.invariant c.self.view_is c.args.version c.root_of-root.result c.root_of-root.ensures) in
+    let made = c.in-Ok.ensures.edits (keys_of c.args.self.now c.args.version) (root-value (set-kind g.K.Ord.cmp g.met.K.Ord.total g.K.Element.code_of) c.self.invariant c.self.view_is c.args.version c.root_of-root.result c.root_of-root.ensures) in
     let done = puts-here (set-kind g.K.Ord.cmp g.met.K.Ord.total g.K.Element.code_of) c.self.invariant c.self.view_is c.root_of-root.ensures made c.put.ensures in
     done.stands
 
 pub returns-in-Ok-clause-made : goal.returns-in-Ok-clause-made
 returns-in-Ok-clause-made g c =
-    let made = c.in-Ok.ensures.made (keys_of c.args.self.now c.args.version) (root-value (set-kind g.K.Ord.cmp g.met.K.Ord.total g.K.Element.code_of) c.self.invariant c.self.view_is c.args.version c.root_of-root.result c.root_of-root.ensures) in
+    let made = c.in-Ok.ensures.edits (keys_of c.args.self.now c.args.version) (root-value (set-kind g.K.Ord.cmp g.met.K.Ord.total g.K.Element.code_of) c.self.invariant c.self.view_is c.args.version c.root_of-root.result c.root_of-root.ensures) in
     let done = puts-here (set-kind g.K.Ord.cmp g.met.K.Ord.total g.K.Element.code_of) c.self.invariant c.self.view_is c.root_of-root.ensures made c.put.ensures in
     done.made
 

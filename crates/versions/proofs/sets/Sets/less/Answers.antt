@@ -2,8 +2,8 @@ use Rattle.versions.specs.Sorted.{keys_of}
 use Rattle.versions.specs.Keyed.{keys_at, IsKeySet}
 use Rattle.versions.proofs.CallLemmas.{on-err}
 use Rattle.versions.proofs.KeyedLemmas.{set-kind}
-use Rattle.versions.proofs.MadeLemmas.{adds-version, held-at, still-seen}
-use Rattle.versions.proofs.StoreLemmas.{refused-seen, refused-stands, room-stands, room-value}
+use Rattle.versions.proofs.MadeLemmas.{held-at, still-seen}
+use Rattle.versions.proofs.StoreLemmas.{merged-version, refused-seen, refused-stands, room-stands, room-value}
 use Rattle.versions.proofs.sets.Sets.less.Goals as goal
 
 pub root_of-first-requires : goal.root_of-first-requires
@@ -32,24 +32,12 @@ returns-in_err-root-clause-refused g c = on-err _ _ (refused-seen (set-kind g.K.
 
 pub invariant_of-self-2 : goal.invariant_of-self-2
 invariant_of-self-2 g c =
-    let kind = set-kind g.K.Ord.cmp g.met.K.Ord.total g.K.Element.code_of in
-    let value = room-value kind c.self.invariant c.self.view_is c.reserve.ensures.keeps in
-    let made = c.in_ok-root.ensures.made _ _ (value c.args.first c.root_of-first.result c.root_of-first.ensures) (value c.args.second c.root_of-second.result c.root_of-second.ensures) in
-    let added = adds-version (IsKeySet g.K.Ord.cmp g.K.Element.code_of) (keys_at g.K.Ord.cmp) kind c.self.invariant c.self.view_is c.reserve.ensures.keeps made c.keep.ensures in
-    added.stands
+    (merged-version (set-kind g.K.Ord.cmp g.met.K.Ord.total g.K.Element.code_of) c.self.invariant c.self.view_is c.reserve.ensures.keeps c.args.first c.args.second c.root_of-first.ensures c.root_of-second.ensures c.in_ok-root.ensures.made c.keep.ensures).stands
 
 pub returns-clause-fresh : goal.returns-clause-fresh
 returns-clause-fresh g c =
-    let kind = set-kind g.K.Ord.cmp g.met.K.Ord.total g.K.Element.code_of in
-    let value = room-value kind c.self.invariant c.self.view_is c.reserve.ensures.keeps in
-    let made = c.in_ok-root.ensures.made _ _ (value c.args.first c.root_of-first.result c.root_of-first.ensures) (value c.args.second c.root_of-second.result c.root_of-second.ensures) in
-    let added = adds-version (IsKeySet g.K.Ord.cmp g.K.Element.code_of) (keys_at g.K.Ord.cmp) kind c.self.invariant c.self.view_is c.reserve.ensures.keeps made c.keep.ensures in
-    added.fresh
+    (merged-version (set-kind g.K.Ord.cmp g.met.K.Ord.total g.K.Element.code_of) c.self.invariant c.self.view_is c.reserve.ensures.keeps c.args.first c.args.second c.root_of-first.ensures c.root_of-second.ensures c.in_ok-root.ensures.made c.keep.ensures).fresh
 
 pub returns-clause-made : goal.returns-clause-made
 returns-clause-made g c =
-    let kind = set-kind g.K.Ord.cmp g.met.K.Ord.total g.K.Element.code_of in
-    let value = room-value kind c.self.invariant c.self.view_is c.reserve.ensures.keeps in
-    let made = c.in_ok-root.ensures.made _ _ (value c.args.first c.root_of-first.result c.root_of-first.ensures) (value c.args.second c.root_of-second.result c.root_of-second.ensures) in
-    let added = adds-version (IsKeySet g.K.Ord.cmp g.K.Element.code_of) (keys_at g.K.Ord.cmp) kind c.self.invariant c.self.view_is c.reserve.ensures.keeps made c.keep.ensures in
-    added.made
+    (merged-version (set-kind g.K.Ord.cmp g.met.K.Ord.total g.K.Element.code_of) c.self.invariant c.self.view_is c.reserve.ensures.keeps c.args.first c.args.second c.root_of-first.ensures c.root_of-second.ensures c.in_ok-root.ensures.made c.keep.ensures).made
