@@ -1,5 +1,5 @@
-# The programs over stores of versions, which vector.sh and maps.sh have in common. They source it behind shared.sh; by itself it
-# runs nothing.
+# The programs over stores of versions, which vector.sh, maps.sh and rust.sh have in common. They source it behind shared.sh; by
+# itself it runs nothing.
 
 # begin_store NAME STORE TYPE SUM WHAT: begins the program over a store of this type, which it calls STORE and hands to `phases`.
 # SUM is the type of the numbers that it tells, and WHAT says what it does.
@@ -112,4 +112,120 @@ use Rattle.$program.proofs.$1.Goals as goal
 pub $2-requires : goal.$2-requires
 $2-requires g c = new-held c.args.$store.now c.$3.new.self c.in_ok-$4.$4 _ c.in_ok-$4.ensures.made
 PROOF
+}
+
+# add_wide: adds an element of 16 bytes to the program.
+add_wide() {
+    sed -i 's/^use elem_core::Num;/use elem_core::{Code, Element};/' "$crate/src/main.rt"
+    cat >> "$crate/src/main.rt" <<PROGRAM
+
+/// A number in as many bytes as a number or a text takes.
+#[derive(Clone, Copy, Debug, PartialEq, Eq, PartialOrd, Ord)]
+pub struct Wide {
+    pub number: u32,
+    pub rest: u64,
+}
+
+impl Element for Wide {
+    ghost use Rattle.std.specs.FinMap.{nat_cmp-IsAntisymmetric};
+    ghost use Rattle.$program.specs.Wide.{first-equal};
+
+    ghost code_of = { λ wide. wide.number };
+
+    fn code(&self) -> Code {
+        u64::from(self.number)
+    }
+
+    ghost equal_codes = { λ x y same. nat_cmp-IsAntisymmetric x.number y.number (first-equal _ _ same) };
+}
+PROGRAM
+    echo 'pub mod Wide' > "$crate/specs/Lib.antt"
+    sed 's/^-- What the order of places says of their rows\./-- What the order of elements says of their numbers./' "$top/crates/undo_history/specs/Place.antt" > "$crate/specs/Wide.antt"
+}
+
+# build_lists WAY [WIDE]: the program over a list of a store of versions, whose edits go this way. Its elements are numbers of 4 bytes,
+# or with WIDE numbers in 16 bytes, as those of the Rust crate are.
+build_lists() {
+    local name=lists_$1${2:+_wide} element=Num made='Num(value)' read='Some(number) => number.0,'
+    if [ -n "${2:-}" ]; then
+        element=Wide made='Wide { number: value, rest: 0 }' read='Some(wide) => wide.number,'
+    fi
+    begin_store "$name" lists "Lists<$element>" u32 "Pushes, random gets and random sets over one list of a store of versions, by edits ${1/_/ }."
+    if [ -n "${2:-}" ]; then
+        add_wide
+    fi
+    cat >> "$crate/src/main.rt" <<PROGRAM
+
+fn phases(rt: &(impl Print + Clock + CpuClock), lists: &mut Lists<$element>) -> Result<()> {
+    let none = lists.empty()?;
+    tell(rt, "start", 0)?;
+    let all = pushes(lists, none)?;
+    tell(rt, "push", lists.len(all))?;
+    let sum = gets(lists, all, 1);
+    tell(rt, "get", sum)?;
+    let all = sets(lists, all, 2)?;
+    tell(rt, "set", 0)?;
+    let sum = gets(lists, all, 3);
+    tell(rt, "end", sum)?;
+    Ok(())
+}
+
+fn pushes(lists: &mut Lists<$element>, first: Version) -> Result<Version>
+    requires { Holds lists.old first }
+    ensures { IfOk result (λ v. Holds lists.new v) }
+{
+    let mut version = first;
+    'turns: for value in 0..COUNT {
+        version = pushed(lists, version, value)?;
+    }
+    Ok(version)
+}
+
+fn sets(lists: &mut Lists<$element>, first: Version, seed: u32) -> Result<Version>
+    requires { Holds lists.old first }
+    ensures { IfOk result (λ v. Holds lists.new v) }
+{
+    let mut version = first;
+    let mut seed = seed;
+    'turns: for value in 0..COUNT {
+        seed = scattered(seed);
+        version = changed(lists, version, place(seed), value)?;
+    }
+    Ok(version)
+}
+
+fn gets(lists: &Lists<$element>, version: Version, seed: u32) -> u32
+    requires { Holds lists.now version }
+{
+    let mut sum: u32 = 0;
+    let mut seed = seed;
+    for _turn in 0..COUNT {
+        seed = scattered(seed);
+        sum = sum.wrapping_add(number_at(lists, version, place(seed)));
+    }
+    sum
+}
+
+fn number_at(lists: &Lists<$element>, version: Version, index: u32) -> u32
+    requires { Holds lists.now version }
+{
+    match lists.get(version, index) {
+        $read
+        None => 0,
+    }
+}
+PROGRAM
+    prove_versions pushes sets
+    prove_made phases pushes empty none
+    add_edit "$1" pushed push 'value: u32' "$made"
+    add_edit "$1" changed set 'index: u32, value: u32' "index, $made"
+    prove_and_build "$name"
+}
+
+# add_lists [WIDE]: adds runs of the programs over a list of a store of versions, with each new version beside the old and in place.
+add_lists() {
+    build_lists beside "${1:-}"
+    runs+=("this repository, Lists|$crate/out/$program|")
+    build_lists in_place "${1:-}"
+    runs+=("this repository, Lists, in place|$crate/out/$program|")
 }

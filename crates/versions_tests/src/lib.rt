@@ -6,8 +6,12 @@ mod lists;
 #[cfg(test)]
 mod maps;
 #[cfg(test)]
+mod number;
+#[cfg(test)]
 mod pools;
 #[cfg(test)]
 mod samples;
 #[cfg(test)]
 mod sets;
+#[cfg(test)]
+mod total;

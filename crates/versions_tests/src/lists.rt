@@ -122,18 +122,18 @@ fn total(rt: &impl Abort, lists: &Lists<Num>, version: Version) -> u32 {
     sum
 }
 
-// The version of the numbers 1, 2 and 3, and no other.
-fn three(rt: &impl Abort, lists: &mut Lists<Num>) -> Result<Version, Fault> {
+// The version of so many numbers, from 1 on.
+fn counted(rt: &impl Abort, lists: &mut Lists<Num>, count: u32) -> Result<Version, Fault> {
     let list = lists.empty()?;
-    for number in 1..4 {
-        edit_here(rt, lists, list, Edit::Push(number))?;
+    for number in 0..count {
+        edit_here(rt, lists, list, Edit::Push(number.wrapping_add(1)))?;
     }
     Ok(list)
 }
 
 // Whether the call makes a version of these numbers of 1, 2 and 3, which stay.
 fn makes(rt: &impl Abort, lists: &mut Lists<Num>, making: Making, numbers: &[u32]) -> bool {
-    let Ok(list) = three(rt, lists) else {
+    let Ok(list) = counted(rt, lists, 3) else {
         return false;
     };
     let Ok(version) = made(rt, lists, list, making) else {
@@ -166,7 +166,7 @@ fn makes_versions(rt: HostRuntime) {
 
 // Whether the call is refused an index past the end of 1, 2 and 3, which stay.
 fn refuses(rt: &impl Abort, lists: &mut Lists<Num>, making: Making) -> bool {
-    let Ok(list) = three(rt, lists) else {
+    let Ok(list) = counted(rt, lists, 3) else {
         return false;
     };
     made(rt, lists, list, making) == Err(Fault::Range) && reads(lists, list, &[1, 2, 3])
@@ -192,7 +192,7 @@ fn refuses_an_index_past_the_end(rt: HostRuntime) {
 }
 
 fn check_cuts_and_joins(rt: &impl Abort, lists: &mut Lists<Num>) -> Result<(), Fail> {
-    let list = three(rt, lists)?;
+    let list = counted(rt, lists, 3)?;
     let (front, back) = parted(rt, lists, list, 2)?;
     let both = joined(rt, lists, back, front)?;
     assert!(rt; reads(lists, front, &[1, 2]));
@@ -227,7 +227,7 @@ fn refuses_to_pop_the_empty_list(rt: HostRuntime) -> Result<(), Fail> {
 }
 
 fn check_copies_and_forgets(rt: &impl Abort, lists: &mut Lists<Num>) -> Result<(), Fail> {
-    let list = three(rt, lists)?;
+    let list = counted(rt, lists, 3)?;
     let copy = made(rt, lists, list, Making::Copy)?;
     assert!(rt; copy != list && alike(lists, copy, list));
     forget(rt, lists, list);
@@ -254,7 +254,7 @@ fn edits(
 }
 
 fn check_edits_a_version_in_place(rt: &impl Abort, lists: &mut Lists<Num>) -> Result<(), Fail> {
-    let list = three(rt, lists)?;
+    let list = counted(rt, lists, 3)?;
     let kept = made(rt, lists, list, Making::Copy)?;
     let cases: [(Edit, &[u32]); 3] = [
         (Edit::Push(4), &[1, 2, 3, 4]),
@@ -283,7 +283,7 @@ fn rows_after(rt: &impl Abort, lists: &mut Lists<Num>, version: Version, change:
 }
 
 fn check_counts_rows(rt: &impl Abort, lists: &mut Lists<Num>) -> Result<(), Fail> {
-    let list = three(rt, lists)?;
+    let list = counted(rt, lists, 3)?;
     // The root and the cells of three numbers.
     assert_eq!(rt; rows_after(rt, lists, list, Edit::Set(0, 9)), 4);
     let kept = made(rt, lists, list, Making::Copy)?;
@@ -300,6 +300,49 @@ fn check_counts_rows(rt: &impl Abort, lists: &mut Lists<Num>) -> Result<(), Fail
 fn counts_rows(rt: HostRuntime) -> Result<(), Fail> {
     let mut lists = Lists::new(rt.alloc());
     check_counts_rows(&rt, &mut lists)
+}
+
+// How many rows were made so far.
+fn made_rows(lists: &Lists<Num>) -> u64 {
+    lists.parts().0.made()
+}
+
+// How many rows the edit makes.
+fn rows_of(rt: &impl Abort, lists: &mut Lists<Num>, version: Version, change: Edit) -> u64 {
+    let before = made_rows(lists);
+    let done = edit_here(rt, lists, version, change);
+    assert!(rt; done.is_ok());
+    made_rows(lists).wrapping_sub(before)
+}
+
+// The edits of a list whose cells lie in two leaves under a root, which a copy shares.
+fn check_makes_a_way_only_where_it_is_shared(
+    rt: &impl Abort,
+    lists: &mut Lists<Num>,
+) -> Result<(), Fail> {
+    let list = counted(rt, lists, 40)?;
+    // The cell alone, as the root and both leaves are the version's own.
+    assert_eq!(rt; rows_of(rt, lists, list, Edit::Set(0, 9)), 1);
+    assert_eq!(rt; rows_of(rt, lists, list, Edit::Push(9)), 1);
+    let before = made_rows(lists);
+    made(rt, lists, list, Making::Copy)?;
+    assert_eq!(rt; made_rows(lists), before);
+    let cases = [
+        // With a leaf and the root, with the other leaf, and alone again.
+        (Edit::Set(0, 8), 3),
+        (Edit::Push(8), 2),
+        (Edit::Set(1, 8), 1),
+    ];
+    for (change, rows) in cases {
+        assert_eq!(rt; rows_of(rt, lists, list, change), rows);
+    }
+    Ok(())
+}
+
+#[test]
+fn makes_a_way_only_where_it_is_shared(rt: HostRuntime) -> Result<(), Fail> {
+    let mut lists = Lists::new(rt.alloc());
+    check_makes_a_way_only_where_it_is_shared(&rt, &mut lists)
 }
 
 // Whether just these two versions are held.

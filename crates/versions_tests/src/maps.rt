@@ -125,6 +125,37 @@ fn edits_rows_of_its_own(rt: HostRuntime) {
     check_edits_rows_of_its_own(&rt, &mut maps);
 }
 
+// How many rows were made so far.
+fn made_rows(maps: &Maps<Num, u32>) -> u64 {
+    maps.parts().0.made()
+}
+
+// How many rows the insertion of 1 at the key makes.
+fn rows_of(rt: &impl Abort, maps: &mut Maps<Num, u32>, version: Version, key: u32) -> u64 {
+    let before = made_rows(maps);
+    edit(rt, maps, version, Change::Insert(key, 1));
+    made_rows(maps).wrapping_sub(before)
+}
+
+// The keys have one first digit, so their entries lie in a row under the root.
+fn check_makes_a_way_of_maps_only_where_it_is_shared(rt: &impl Abort, maps: &mut Maps<Num, u32>) {
+    let map = four_and(rt, maps, 36, 1);
+    // The key, the value and their pair alone, as both rows are the version's own.
+    assert_eq!(rt; rows_of(rt, maps, map, 68), 3);
+    let before = made_rows(maps);
+    made(rt, maps, map, Change::Copy);
+    assert_eq!(rt; made_rows(maps), before);
+    // With both rows, and alone again.
+    assert_eq!(rt; rows_of(rt, maps, map, 100), 5);
+    assert_eq!(rt; rows_of(rt, maps, map, 132), 3);
+}
+
+#[test]
+fn makes_a_way_of_maps_only_where_it_is_shared(rt: HostRuntime) {
+    let mut maps = Maps::new(rt.alloc());
+    check_makes_a_way_of_maps_only_where_it_is_shared(&rt, &mut maps);
+}
+
 // The entries of either version.
 fn united(rt: &impl Abort, maps: &mut Maps<Num, u32>, first: Version, second: Version) -> Version {
     assert!(rt; maps.holds(first) && maps.holds(second));
@@ -198,8 +229,11 @@ fn check_tells_the_versions_of_maps(
     let none = maps.empty()?;
     let one = made(rt, maps, none, Change::Insert(7, 70));
     assert_eq!(rt; held(maps), 2);
+    // The empty root, and the root, the pair, the key and the value.
+    assert_eq!(rt; maps.rows(), 5);
     assert!(rt; forgets(rt, maps, none, one, (1, 70)));
     assert_eq!(rt; held(maps), 1);
+    assert_eq!(rt; maps.rows(), 4);
     maps.keys_rise();
     Ok(())
 }

@@ -1,10 +1,12 @@
-//! Lists and sets of texts, saved and loaded.
+//! Lists, sets and maps of texts, saved and loaded.
+use crate::samples::text;
 use elem_core::{Stored, Text};
 use pool_text::Damage;
 use std::test::Fail;
-use versions::{Lists, Sets, Version};
+use versions::{Lists, Maps, Sets, Version};
 use versions_pool::{
-    lists_after_save, load_lists, load_sets, save_lists, save_sets, sets_after_save,
+    lists_after_save, load_lists, load_maps, load_sets, maps_after_save, save_lists, save_maps,
+    save_sets, sets_after_save,
 };
 
 // The lists `a` and `a`, `b`, which share a cell, as the versions 0 and 2.
@@ -113,6 +115,64 @@ const SET_DAMAGES: [(&[u8], Damage); 3] = [
 fn tells_the_damage_of_sets(rt: HostRuntime) -> Result<(), Fail> {
     for (bytes, damage) in SET_DAMAGES {
         assert_eq!(rt; load_sets::<Text>(rt.alloc(), bytes).err(), Some(damage));
+    }
+    Ok(())
+}
+
+// The maps that bind `a` to `b`, and besides `b` to `a`, which share a pair, as the versions 0 and 2.
+const TWO_MAPS: &[u8] =
+    b"{\"format\":\"naipselu-maps\",\"names\":[0,2],\"roots\":[3,7],\"rows\":[[\"c\",\"a\"],[\"c\",\"b\"],[\"p\",[0,1]],[\"m\",0,4096,0,[2]],[\"c\",\"b\"],[\"c\",\"a\"],[\"p\",[4,5]],[\"m\",0,4128,0,[6,2]]],\"version\":1}";
+
+// The text at the key of a version, if it is held and has it.
+fn bound_text<'m>(maps: &'m Maps<Text, Text>, number: usize, key: &Text) -> Option<&'m str> {
+    let version = Version::from_number(number);
+    if !maps.holds(version) {
+        return None;
+    }
+    Some(maps.get(version, key)?.text())
+}
+
+#[test]
+fn saves_maps_that_it_loads(rt: HostRuntime) -> Result<(), Fail> {
+    let maps = load_maps(rt.alloc(), TWO_MAPS)?;
+    let first = text(&rt, rt.alloc(), "a");
+    let second = text(&rt, rt.alloc(), "b");
+    assert_eq!(rt; maps.rows(), 8);
+    assert_eq!(rt; bound_text(&maps, 0, &first), Some("b"));
+    assert_eq!(rt; bound_text(&maps, 0, &second), None);
+    assert_eq!(rt; bound_text(&maps, 1, &first), None);
+    assert_eq!(rt; bound_text(&maps, 2, &first), Some("b"));
+    assert_eq!(rt; bound_text(&maps, 2, &second), Some("a"));
+    let again = maps_after_save(rt.alloc(), &maps)?;
+    assert_eq!(rt; again.rows(), 8);
+    assert_eq!(rt; save_maps(rt.alloc(), &again)?.as_slice(), TWO_MAPS);
+    Ok(())
+}
+
+// Documents, and the first test that each fails: one of sets, a set, a key where its digit isn't, and a cell that is a key and a value.
+const MAP_DAMAGES: [(&[u8], Damage); 4] = [
+    (TWO_SETS, Damage::Form),
+    (
+        b"{\"format\":\"naipselu-maps\",\"names\":[0],\"roots\":[1],\"rows\":[[\"c\",\"a\"],[\"m\",0,4096,0,[0]]],\"version\":1}",
+        Damage::Kind,
+    ),
+    (
+        b"{\"format\":\"naipselu-maps\",\"names\":[0],\"roots\":[2],\"rows\":[[\"c\",\"a\"],[\"p\",[0,0]],[\"m\",0,8192,0,[1]]],\"version\":1}",
+        Damage::Trie,
+    ),
+    (
+        b"{\"format\":\"naipselu-maps\",\"names\":[0],\"roots\":[2],\"rows\":[[\"c\",\"a\"],[\"p\",[0,0]],[\"m\",0,4096,0,[1]]],\"version\":1}",
+        Damage::Kind,
+    ),
+];
+
+#[test]
+fn tells_the_damage_of_maps(rt: HostRuntime) -> Result<(), Fail> {
+    for (bytes, damage) in MAP_DAMAGES {
+        assert_eq!(rt;
+            load_maps::<Text, Text>(rt.alloc(), bytes).err(),
+            Some(damage)
+        );
     }
     Ok(())
 }

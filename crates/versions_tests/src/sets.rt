@@ -174,6 +174,37 @@ fn copies_and_forgets_sets(rt: HostRuntime) {
     check_copies_and_forgets_sets(&rt, &mut sets);
 }
 
+// How many rows were made so far.
+fn made_rows(sets: &Sets<Num>) -> u64 {
+    sets.parts().0.made()
+}
+
+// How many rows the insertion of the number makes.
+fn rows_of(rt: &impl Abort, sets: &mut Sets<Num>, version: Version, number: u32) -> u64 {
+    let before = made_rows(sets);
+    edit(rt, sets, version, Making::Insert(number));
+    made_rows(sets).wrapping_sub(before)
+}
+
+// The numbers have one first digit, so their cells lie in a row under the root.
+fn check_makes_a_way_of_sets_only_where_it_is_shared(rt: &impl Abort, sets: &mut Sets<Num>) {
+    let set = four_and(rt, sets, 36);
+    // The cell alone, as both rows are the version's own.
+    assert_eq!(rt; rows_of(rt, sets, set, 68), 1);
+    let before = made_rows(sets);
+    made(rt, sets, set, Making::Copy);
+    assert_eq!(rt; made_rows(sets), before);
+    // With both rows, and alone again.
+    assert_eq!(rt; rows_of(rt, sets, set, 100), 3);
+    assert_eq!(rt; rows_of(rt, sets, set, 132), 1);
+}
+
+#[test]
+fn makes_a_way_of_sets_only_where_it_is_shared(rt: HostRuntime) {
+    let mut sets = Sets::new(rt.alloc());
+    check_makes_a_way_of_sets_only_where_it_is_shared(&rt, &mut sets);
+}
+
 // Whether both versions are held and have equal keys.
 fn are_same(sets: &Sets<Num>, left: Version, right: Version) -> bool {
     sets.holds(left) && sets.holds(right) && sets.same(left, right)

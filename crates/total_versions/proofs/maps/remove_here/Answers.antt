@@ -1,0 +1,10 @@
+use Rattle.std.proofs.Common.{refl}
+use Rattle.versions.specs.Sorted.{entries_of, remove_entry}
+use Rattle.total_versions.proofs.AnswerLemmas.{edits-memory, not-yes}
+use Rattle.total_versions.proofs.maps.remove_here.Goals as goal
+
+pub returns-then-not-holds : goal.returns-then-not-holds
+returns-then-not-holds g c = (λ held. not-yes (c.holds.ensures.1 held) c.if-not-holds.true, refl)
+
+pub returns : goal.returns
+returns g c = rw c.told_memory_here.ensures (edits-memory c.args.maps.now c.remove_here.new.self c.args.version (remove_entry g.K.Ord.cmp (entries_of c.args.maps.now c.args.version) (g.P.Probe.stands_for c.args.key.now)) (c.holds.ensures.0 c.if-not-holds.false) c.remove_here.result c.remove_here.ensures.made c.remove_here.ensures.refused (λ z. z) (λ z. z))

@@ -1,0 +1,12 @@
+use Rattle.std.proofs.Common.{◌≡◌, List, ◌++◌, length}
+use Rattle.versions_c.specs.declared.value.Value.{Value}
+use Rattle.versions_c.specs.Shown.{StandBefore, flat}
+use Rattle.versions_c.proofs.fill.entries.Given as goal
+
+abbrev pub invariant-loop-key : goal.invariant-loop-key
+invariant-loop-key l =
+    record {
+      stand : (es : List (Value × Value)) × (l.initial.key-iterator ≡ es ++ l.key-iterator) × StandBefore (flat es) l.at l.forms l.room;
+      forms : length l.forms ≡ length l.initial.forms;
+      room : length l.room ≡ length l.initial.room;
+    }

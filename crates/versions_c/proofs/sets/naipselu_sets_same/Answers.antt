@@ -1,0 +1,14 @@
+use Rattle.std.proofs.Common.{Some, refl, sym, ap, ◌∙◌, subst, ◌≡◌}
+use Rattle.std.specs.declared.cmp.Ordering.TheVariants.{Equal}
+use Rattle.versions_c.specs.Crossing.{put_or}
+use Rattle.total_versions.specs.Calls.{Compares}
+use Rattle.versions_c.specs.Stores.{OnSets, Of}
+use Rattle.versions_c.proofs.CallLemmas.{calls-none, calls-at, same-sets}
+use Rattle.versions_c.specs.contracts.value.ValueOrd.TheImpl as order
+use Rattle.versions_c.proofs.sets.naipselu_sets_same.Goals as goal
+
+pub returns-in_default : goal.returns-in_default
+returns-in_default c = calls-none put_or c.args.same.now (OnSets (Of (Compares (λ x y. (order.ghosts).cmp x y ≡ Equal) c.args.left c.args.right))) c.in_default.ensures.taken c.in_default.ensures.left c.code.ensures refl
+
+pub returns : goal.returns
+returns c = calls-at put_or c.args.same.now (λ v. OnSets (Of (Compares (λ x y. (order.ghosts).cmp x y ≡ Equal) v c.args.right))) c.from_number.ensures _ _ c.same-answer.result (c.in-Some.ensures.taken ∙ ap Some (sym c.deref.ensures)) c.put.ensures c.written.ensures.code c.written.ensures.put (same-sets (Of (Compares (λ x y. (order.ghosts).cmp x y ≡ Equal) c.from_number.result c.args.right)) c.deref.ensures (refl, subst (λ w. Compares (λ x y. (order.ghosts).cmp x y ≡ Equal) c.from_number.result w c.deref.result.now.sets c.same-answer.result) c.from_number-2.ensures c.same-answer.ensures))
