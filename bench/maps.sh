@@ -728,7 +728,8 @@ use Rattle.node_heap.specs.Links.{count}
 use Rattle.node_heap.specs.Forms.{cell}
 use Rattle.node_heap.specs.Heap.{Heap, holds_at, hold_count, one_at}
 use Rattle.node_heap.specs.Calls.{HasHolds, Unchanged, Adds, Releases, KeepsHeld}
-use Rattle.node_heap.specs.Owner.{by_hold, EditsBy}
+use Rattle.node_heap.specs.declared.owner.Owner.TheVariants.{Hold as by_hold}
+use Rattle.node_heap.specs.Owner.{EditsBy}
 use Rattle.node_heap.proofs.BuildLemmas.{count-cons, count-one}
 use Rattle.node_heap.proofs.OwnerLemmas.{KeepsHeld-EditsBy}
 use Rattle.champ_chain.proofs.CopyLemmas.{one_at-same}

@@ -251,9 +251,11 @@ PROOF
 # add_spent FUNCTION CALL [INDEX]: adds a function whose CALL spends a new cell, at an INDEX if it takes one, with its proofs.
 add_spent() {
     local function=$1 call=$2 index=${3:-}
+    # The fault of the call is small, and `anyhow::Error` isn't: it would be cleared at each turn.
+    local fault=${call^}Fault
     cat >> "$crate/src/main.rt" <<PROGRAM
 
-fn $function(heap: &mut Heap<u32>, root: Link${index:+, $index: u32}, value: u32) -> Result<Link>
+fn $function(heap: &mut Heap<u32>, root: Link${index:+, $index: u32}, value: u32) -> Result<Link, $fault>
 $one_vector
 {
     heap.reserve(1, 0)?;

@@ -25,7 +25,7 @@ ghost use Rattle.rrb_core.specs.Vector.{IsGoodVector};
 use anyhow::Result;
 use elem_core::NoMemory;
 use node_heap::{Heap, Link};
-use rrb_core::{Flex, FlexRef, push, set};
+use rrb_core::{Flex, FlexRef, PushFault, SetFault, push, set};
 use std::io;
 use std::rt::Clock;
 use std::time::CpuClock;
@@ -83,7 +83,7 @@ use anyhow::Result;
 use edit_vec::{FlexEdit, OpenFault};
 use elem_core::NoMemory;
 use node_heap::{Heap, Link};
-use rrb_core::{Flex, FlexRef};
+use rrb_core::{Flex, FlexRef, PushFault, SetFault};
 use std::io;
 use std::rt::Clock;
 use std::time::CpuClock;
@@ -157,7 +157,7 @@ fn sets(heap: &mut Heap<u32>, vector: &mut FlexEdit, seed: u32) -> Result<()>
     Ok(())
 }
 
-fn push(heap: &mut Heap<u32>, vector: &mut FlexEdit, value: u32) -> Result<()>
+fn push(heap: &mut Heap<u32>, vector: &mut FlexEdit, value: u32) -> Result<(), PushFault>
     requires edited { IsEdited heap.old vector.old }
     ensures edited { OnOk result (IsEdited heap.new vector.new) }
 {
@@ -168,7 +168,7 @@ fn push(heap: &mut Heap<u32>, vector: &mut FlexEdit, value: u32) -> Result<()>
 }
 
 // The element that stood there is given up.
-fn set(heap: &mut Heap<u32>, vector: &mut FlexEdit, index: u32, value: u32) -> Result<()>
+fn set(heap: &mut Heap<u32>, vector: &mut FlexEdit, index: u32, value: u32) -> Result<(), SetFault>
     requires edited { IsEdited heap.old vector.old }
     ensures edited { OnOk result (IsEdited heap.new vector.new) }
 {
@@ -206,7 +206,7 @@ use Rattle.std.proofs.Common.{◌≡◌, ℕ, ◌+◌, ◌<◌, ◌≤◌, [], �
 use Rattle.node_heap.specs.Forms.{cell}
 use Rattle.node_heap.specs.Heap.{Heap, holds_at, hold_count, one_at}
 use Rattle.node_heap.specs.Calls.{HasHolds, Unchanged, Adds, Releases, KeepsHeld}
-use Rattle.node_heap.specs.Owner.{by_hold}
+use Rattle.node_heap.specs.declared.owner.Owner.TheVariants.{Hold as by_hold}
 use Rattle.node_heap.proofs.Counts.{test_same}
 use Rattle.rrb_core.proofs.LinkCounts.{count-cons, one-held}
 use Rattle.rrb_core.proofs.Stays.{vector-stays}
@@ -296,81 +296,8 @@ done
 prove_and_build vector_in_place
 runs+=("this repository, in place|$crate/out/vector_in_place|")
 
-# add_lists WAY: the program over a list of a store of versions.
-add_lists() {
-    begin_store "lists_$1" lists 'Lists<Num>' u32 "Pushes, random gets and random sets over one list of a store of versions, by edits ${1/_/ }."
-    cat >> "$crate/src/main.rt" <<'PROGRAM'
-
-fn phases(rt: &(impl Print + Clock + CpuClock), lists: &mut Lists<Num>) -> Result<()> {
-    let none = lists.empty()?;
-    tell(rt, "start", 0)?;
-    let all = pushes(lists, none)?;
-    tell(rt, "push", lists.len(all))?;
-    let sum = gets(lists, all, 1);
-    tell(rt, "get", sum)?;
-    let all = sets(lists, all, 2)?;
-    tell(rt, "set", 0)?;
-    let sum = gets(lists, all, 3);
-    tell(rt, "end", sum)?;
-    Ok(())
-}
-
-fn pushes(lists: &mut Lists<Num>, first: Version) -> Result<Version>
-    requires { Holds lists.old first }
-    ensures { IfOk result (λ v. Holds lists.new v) }
-{
-    let mut version = first;
-    'turns: for value in 0..COUNT {
-        version = pushed(lists, version, value)?;
-    }
-    Ok(version)
-}
-
-fn sets(lists: &mut Lists<Num>, first: Version, seed: u32) -> Result<Version>
-    requires { Holds lists.old first }
-    ensures { IfOk result (λ v. Holds lists.new v) }
-{
-    let mut version = first;
-    let mut seed = seed;
-    'turns: for value in 0..COUNT {
-        seed = scattered(seed);
-        version = changed(lists, version, place(seed), value)?;
-    }
-    Ok(version)
-}
-
-fn gets(lists: &Lists<Num>, version: Version, seed: u32) -> u32
-    requires { Holds lists.now version }
-{
-    let mut sum: u32 = 0;
-    let mut seed = seed;
-    for _turn in 0..COUNT {
-        seed = scattered(seed);
-        sum = sum.wrapping_add(number_at(lists, version, place(seed)));
-    }
-    sum
-}
-
-fn number_at(lists: &Lists<Num>, version: Version, index: u32) -> u32
-    requires { Holds lists.now version }
-{
-    match lists.get(version, index) {
-        Some(number) => number.0,
-        None => 0,
-    }
-}
-PROGRAM
-    prove_versions pushes sets
-    prove_made phases pushes empty none
-    add_edit "$1" pushed push 'value: u32' 'Num(value)'
-    add_edit "$1" changed set 'index: u32, value: u32' 'index, Num(value)'
-    prove_and_build "lists_$1"
-}
-
-add_lists beside
-runs+=("this repository, Lists|$crate/out/lists_beside|")
-add_lists in_place
-runs+=("this repository, Lists, in place|$crate/out/lists_in_place|")
+# The programs over a list of a store of versions.
+add_lists
 
 # The program over `im_rc::Vector` and `Vec`.
 begin_rust vectors
