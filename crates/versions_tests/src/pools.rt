@@ -2,6 +2,8 @@
 use crate::samples::text;
 use elem_core::{Stored, Text};
 use pool_text::Damage;
+use std::alloc::Global;
+use std::process::Abort;
 use std::test::Fail;
 use versions::{Lists, Maps, Sets, Version};
 use versions_pool::{
@@ -132,21 +134,29 @@ fn bound_text<'m>(maps: &'m Maps<Text, Text>, number: usize, key: &Text) -> Opti
     Some(maps.get(version, key)?.text())
 }
 
+fn check_reads_maps(rt: &impl Abort, maps: &Maps<Text, Text>, first: &Text, second: &Text) {
+    assert_eq!(rt; maps.rows(), 8);
+    assert_eq!(rt; bound_text(maps, 0, first), Some("b"));
+    assert_eq!(rt; bound_text(maps, 0, second), None);
+    assert_eq!(rt; bound_text(maps, 1, first), None);
+    assert_eq!(rt; bound_text(maps, 2, first), Some("b"));
+    assert_eq!(rt; bound_text(maps, 2, second), Some("a"));
+}
+
+fn check_saves_maps(rt: &impl Abort, alloc: Global, maps: &Maps<Text, Text>) -> Result<(), Fail> {
+    let again = maps_after_save(alloc, maps)?;
+    assert_eq!(rt; again.rows(), 8);
+    assert_eq!(rt; save_maps(alloc, &again)?.as_slice(), TWO_MAPS);
+    Ok(())
+}
+
 #[test]
 fn saves_maps_that_it_loads(rt: HostRuntime) -> Result<(), Fail> {
     let maps = load_maps(rt.alloc(), TWO_MAPS)?;
     let first = text(&rt, rt.alloc(), "a");
     let second = text(&rt, rt.alloc(), "b");
-    assert_eq!(rt; maps.rows(), 8);
-    assert_eq!(rt; bound_text(&maps, 0, &first), Some("b"));
-    assert_eq!(rt; bound_text(&maps, 0, &second), None);
-    assert_eq!(rt; bound_text(&maps, 1, &first), None);
-    assert_eq!(rt; bound_text(&maps, 2, &first), Some("b"));
-    assert_eq!(rt; bound_text(&maps, 2, &second), Some("a"));
-    let again = maps_after_save(rt.alloc(), &maps)?;
-    assert_eq!(rt; again.rows(), 8);
-    assert_eq!(rt; save_maps(rt.alloc(), &again)?.as_slice(), TWO_MAPS);
-    Ok(())
+    check_reads_maps(&rt, &maps, &first, &second);
+    check_saves_maps(&rt, rt.alloc(), &maps)
 }
 
 // Documents, and the first test that each fails: one of sets, a set, a key where its digit isn't, and a cell that is a key and a value.
