@@ -1,7 +1,7 @@
 -- What a caller cites of maps and sets.
 
 -- what stays where rows stay
-pub use Rattle.champ_kinds.proofs.StayLemmas.{container-stays, containers-extended, containers-unchanged, entries-seen, map-live, map-reaches, map-seen, maps-kept, maps-stay, set-live, set-reaches, set-seen, sets-kept, sets-stay}
+pub use Rattle.champ_kinds.proofs.StayLemmas.{container-stays, containers-extended, containers-unchanged, entries-extended, entries-seen, map-live, map-reaches, map-seen, maps-kept, maps-stay, set-live, set-reaches, set-seen, sets-kept, sets-stay}
 -- a map of cells, and what it says after an edit
 pub use Rattle.champ_kinds.proofs.SaysLemmas.{nothing-below, rooted-same, says-below, says-left, says-none, says-opened, says-put, says-seen, says-still, there}
 pub use Rattle.champ_kinds.proofs.FindLemmas.{bound-here, bound-other, unbound-here, unbound-other, value-all}

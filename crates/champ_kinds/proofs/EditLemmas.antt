@@ -9,11 +9,13 @@ use Rattle.std.specs.declared.cmp.Ordering.TheVariants.{Equal}
 use Rattle.node_heap.specs.Forms.{Forms, cell, node, pair, value_of}
 use Rattle.node_heap.specs.Heap.{Heap, form_at}
 use Rattle.node_heap.specs.Calls.{Extends, Unchanged, Builds}
-use Rattle.node_heap.proofs.Frames.{Extends-trans, Extends-Unchanged}
+use Rattle.node_heap.proofs.Frames.{Extends-trans}
 use Rattle.node_heap.proofs.BuildLemmas.{Builds-both, Builds-then, Builds-more, count-cons, count-one}
 use Rattle.champ_chain.specs.Entry.{Entry, entry, key_of, key_at, has_key, link_with, others, put}
 use Rattle.champ_chain.proofs.FrameLemmas.{KeepsForms, forms-kept, forms-same}
+use Rattle.champ_chain.proofs.SetLemmas.{same-find}
 use Rattle.champ_trie.specs.Trie.{IsTrieOf}
+use Rattle.champ_trie.proofs.CanonLemmas.{has-one-set}
 use Rattle.champ_kinds.specs.Root.{Root}
 use Rattle.champ_kinds.specs.Binding.{Binding, binding, bind, unbind, kept_key}
 use Rattle.champ_kinds.specs.Kinds.{IsKeyCell, IsPair, HasEntries, IsSetOf, IsMapOf}
@@ -113,25 +115,28 @@ module _ {K : Type 0} (cmp : K → K → Ordering) (o : IsTotalOrder cmp) where
             at ∙ cc;
       }
 
+-- what is found among some entries of a root is found among any
+pub found-any : {T : Type 0} (cmp : T → T → Ordering) (o : IsTotalOrder cmp) (code : T → ℕ) (h : Heap T) (r : Root) (key : T) (found : Option ℕ) → (D : List (Entry T)) × HasEntries cmp code h r D × (found ≡ link_with cmp key D)
+    → (E : List (Entry T)) → HasEntries cmp code h r E → found ≡ link_with cmp key E
+found-any {T} cmp o code h r key found looked E is =
+    let one = has-one-set cmp _ o (form_at h) r.root looked.0 E looked.1.trie is.trie in
+    looked.2 ∙ ap (option_map (λ (e : Entry T). e.link)) (same-find (has_key cmp key) looked.0 E one (looked.1.trie.distinct.once key))
+
 module _ {T : Type 0} where
-  -- room was made, the key got its cell, and the pair of it and the value was made
-  pub record MakesPair (old room gained paired : Heap T) (x value y : ℕ) : Type 0 where
-    pub room_made : Unchanged old room
-    pub gain : Builds room gained [] (x ∷ []) 1 0
+  -- the key got its cell, and the pair of it and the value was made
+  pub record MakesPair (old gained paired : Heap T) (x value y : ℕ) : Type 0 where
+    pub gain : Builds old gained [] (x ∷ []) 1 0
     pub pair_made : Builds gained paired (x ∷ value ∷ []) (y ∷ []) 0 1
     pub row : form_at paired y ≡ Some (node pair (x ∷ value ∷ []))
 
-  module _ {old room gained paired : Heap T} {x value y : ℕ} (made : MakesPair old room gained paired x value y) where
-    pub made-builds : Builds room paired (value ∷ []) (y ∷ []) 1 1
+  module _ {old gained paired : Heap T} {x value y : ℕ} (made : MakesPair old gained paired x value y) where
+    pub made-builds : Builds old paired (value ∷ []) (y ∷ []) 1 1
     made-builds = Builds-both (value ∷ []) (y ∷ []) made.gain made.pair_made (λ k. omega (arith, count-cons k x (value ∷ []), count-one k x)) (omega arith)
 
-    pub made-extends : Extends old paired
-    made-extends = Extends-trans (Extends-Unchanged made.room_made) made-builds.extends
-
-    pub all-built : (new : Heap T) (root n m : ℕ) → n + 1 ≤ m → Builds paired new (y ∷ []) (root ∷ []) 0 n → Builds room new (value ∷ []) (root ∷ []) 1 m
+    pub all-built : (new : Heap T) (root n m : ℕ) → n + 1 ≤ m → Builds paired new (y ∷ []) (root ∷ []) 0 n → Builds old new (value ∷ []) (root ∷ []) 1 m
     all-built new root n m fits more = Builds-more 1 m (Builds-then made-builds more) (omega arith) (omega arith)
 
-    module _ (cmp : T → T → Ordering) (o : IsTotalOrder cmp) {key : T} {M : List (Binding T)} {found : Option ℕ} (got : HasCell cmp o (form_at room) (form_at gained) key M found x) where
+    module _ (cmp : T → T → Ordering) (o : IsTotalOrder cmp) {key : T} {M : List (Binding T)} {found : Option ℕ} (got : HasCell cmp o (form_at old) (form_at gained) key M found x) where
       pub made-cell : form_at paired x ≡ Some (cell got.key_there)
       made-cell = let keeps = forms-kept gained paired made.pair_made.extends in keeps.kept x _ got.here
 
@@ -152,7 +157,7 @@ module _ {T : Type 0} where
           rooted = record { bits = is.rooted.bits; trie = others-kept root r.bits is.entries trie };
           pairs = (
             record { key_cell = x; cell = made-pair.cell; row = made-pair.row; key = got.kept },
-            others-pairs (form_at new) cmp key is.entries M (pairs-kept (form_at old) (form_at new) (forms-kept old new (Extends-trans made-extends more)) is.entries M is.pairs),
+            others-pairs (form_at new) cmp key is.entries M (pairs-kept (form_at old) (form_at new) (forms-kept old new (Extends-trans made-builds.extends more)) is.entries M is.pairs),
           );
         }
 
@@ -164,6 +169,17 @@ module _ {T : Type 0} where
           entries = record { bits = is.bits; trie = others-kept root r.bits E trie };
           same_key = got.same;
           is_pair = made-pair;
-          old_cell = λ z first second there row. got.old_cell z first second (look ∙ there) (let keeps = forms-same old room made.room_made.rows in keeps.kept z _ row);
+          old_cell = λ z first second there row. got.old_cell z first second (look ∙ there) row;
           new_key = λ none. got.new_key (look ∙ none);
         }
+
+  -- room was made first
+  pub puts-before : {cmp : T → T → Ordering} {code : T → ℕ} {old mid new : Heap T} {r : Root} {E : List (Entry T)} {key : T} {value : ℕ} → Unchanged old mid → PutsPair cmp code mid new r E key value → PutsPair cmp code old new r E key value
+  puts-before {old = old} {mid = mid} same puts = record {
+    entry = puts.entry;
+    entries = puts.entries;
+    same_key = puts.same_key;
+    is_pair = puts.is_pair;
+    old_cell = λ z first second there row. puts.old_cell z first second there (let keeps = forms-same old mid same.rows in keeps.kept z _ row);
+    new_key = puts.new_key;
+  }

@@ -100,6 +100,10 @@ module _ {T : Type 0} where
     set = λ cmp code E is. (container-stays old new r (more.kept r.root (set-live old r r.root refl is))).set cmp code E is;
   }
 
+  -- where every row stays, a root has the entries that it had
+  pub entries-extended : {cmp : T → T → Ordering} {code : T → ℕ} {r : Root} {E : List (Entry T)} (old new : Heap T) → Extends old new → HasEntries cmp code old r E → HasEntries cmp code new r E
+  entries-extended {cmp} {code} {r} {E} old new more is = rooted-stays old new r (more.kept r.root (canon-live cmp _ old r.root E is.trie)) cmp code E is
+
   -- what was a map is one, and what was a set
   pub maps-kept : {old new : Heap T} (cmp : T → T → Ordering) (code : T → ℕ) → KeepsContainers old new → KeepsMaps cmp code old new
   maps-kept cmp code keeps r is = (is.0, (keeps r).map cmp code is.0 is.1)

@@ -14,6 +14,6 @@ mod set;
 pub use champ_trie::Entries;
 pub use fault::MapFault;
 pub use laws::{containers_stay, maps_follow_contents, sets_follow_contents};
-pub use map::{INSERT_NODES, Map, MapRef, Maps, map_insert, map_remove};
+pub use map::{INSERT_NODES, Map, MapRef, Maps, map_insert, map_insert_there, map_remove};
 pub use root::{RootRef, Rooted};
 pub use set::{Set, SetRef, Sets, set_insert, set_remove};

@@ -3,7 +3,7 @@ ghost use Rattle.std.specs.Prelude.{◌≡◌, ◌↔◌, ℕ, ◌+◌, ◌<◌,
 ghost use Rattle.node_heap.specs.Forms.{cell};
 ghost use Rattle.node_heap.specs.Heap.{row_at, form_at, holds_at, hold_count, HasSpares, IsGraph, half_holds, most_holds, row_limit};
 ghost use Rattle.node_heap.specs.Calls.{Answered, Builds, KeepsToNeed, MakesJust};
-ghost use Rattle.champ_chain.specs.Entry.{Entry, entry as entry_of, others};
+ghost use Rattle.champ_chain.specs.Entry.{Entry, entry as entry_of, link_with, others};
 ghost use Rattle.champ_trie.specs.Trie.{code_by};
 ghost use Rattle.champ_trie.specs.Edit.{SharesBeside};
 ghost use Rattle.champ_trie.specs.Walk.{walk};
@@ -106,10 +106,40 @@ pub fn map_insert<T: Element>(
     if heap.reserve(1, found.alike + INSERT_NODES).is_err() {
         return Err(MapFault { key });
     }
-    let cell = key_cell(heap, found.entry, key);
+    Ok(map_insert_there(heap, map, found.entry, key, value))
+}
+
+/// `map_insert` where the entry of the key, if any, has been looked up and there are spares for all that it makes: it refuses
+/// nothing.
+pub fn map_insert_there<T: Element>(
+    heap: &mut Heap<T>,
+    map: MapRef,
+    found: Option<Link>,
+    key: T,
+    value: Link,
+) -> Map
+    requires few { hold_count heap.old < half_holds }
+    requires held { 0 < holds_at heap.old value }
+    requires contents { (M : List (Binding T)) × IsMapOf T.cmp T.code_of heap.old map M
+        × HasSpares heap.old 1 (INSERT_NODES + alike_keys T.code_of map.bits key M) }
+    requires found { (E : List (Entry T)) × HasEntries T.cmp T.code_of heap.old map E × (found ≡ link_with T.cmp key E) }
+    ensures answered { (M : List (Binding T)) → IsMapOf T.cmp T.code_of heap.old map M →
+        Answered heap.old heap.new (value ∷ []) result.root 1 (INSERT_NODES + alike_keys T.code_of map.bits key M) }
+    ensures made { MakesJust heap.old heap.new }
+    ensures bits { result.bits ≡ map.bits }
+    ensures contents { (M : List (Binding T)) → IsMapOf T.cmp T.code_of heap.old map M →
+        IsMapOf T.cmp T.code_of heap.new result (bind T.cmp M key value) }
+    ensures entries { (E : List (Entry T)) → HasEntries T.cmp T.code_of heap.old map E →
+        PutsPair T.cmp T.code_of heap.old heap.new result E key value }
+    ensures shares { SharesBeside (form_at heap.old) (form_at heap.new) (code_by T.code_of map.bits key) LEVELS 0 map.root result.root }
+    ensures containers { KeepsContainers heap.old heap.new }
+    ensures spares { KeepsToNeed heap.old heap.new 0 0 }
+{
+    heap.rows_form_a_graph();
+    let cell = key_cell(heap, found, key);
     let entry = heap.node(Head::Pair, &[cell, value]);
     let root = added(heap, map.root, entry, map.bits);
-    Ok(Rooted::from_root(root, map.bits))
+    Rooted::from_root(root, map.bits)
 }
 
 // The key's cell, with one hold more: that of the entry that was found, or else a new one.
