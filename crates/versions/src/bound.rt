@@ -7,7 +7,7 @@ ghost use Rattle.versions.specs.Sorted.{remove_entry};
 ghost use Rattle.versions.specs.Bound.{IsKeyMap};
 
 use crate::piece::{KeyOf, Piece};
-use champ_kinds::{INSERT_NODES, Map, MapRef, map_insert, map_remove};
+use champ_kinds::{INSERT_NODES, Map, MapRef, map_insert_there, map_remove};
 use champ_trie::look_up;
 use elem_core::{CODE_BITS, Element, NoMemory, Probe};
 use node_heap::{Heap, Link};
@@ -58,10 +58,9 @@ pub(crate) fn with_entry<K: Element, V: Ord + Drop>(
         return Err((key, value));
     }
     let cell = heap.cell(Piece::Value(value));
-    match map_insert(heap, MapRef::at(root, CODE_BITS), Piece::Key(key), cell) {
-        Ok(map) => Ok(map.into_root()),
-        Err(_) => unreachable!(),
-    }
+    let map = MapRef::at(root, CODE_BITS);
+    let made = map_insert_there(heap, map, found.entry, Piece::Key(key), cell);
+    Ok(made.into_root())
 }
 
 // The map without the key. Err where memory runs out.
