@@ -22,14 +22,16 @@ use Rattle.set_merge.specs.declared.roots.Roots.{Roots}
 use Rattle.set_merge.specs.Need.{merge_need}
 use Rattle.set_merge.specs.declared.keeps.Keeps.{Keeps}
 use Rattle.set_merge.specs.declared.keeps.TheConstants.{UNION, BOTH, LESS}
-use Rattle.set_merge.specs.Merge.{is_key, union, both, less, map_union, merged}
+use Rattle.set_merge.specs.Merge.{is_key, union, both, less, merged, map_union, map_both, map_less, map_merged}
+use Rattle.set_merge.proofs.ZipLemmas.{zip-joined, zip-filter}
 use Rattle.set_merge.proofs.MergeLemmas.{filter-same, filter-all, filter-none, append-none}
 
 pub on-ok : {X E : Type 0} (r : Result X E) {P Q : Type 0} → (P → Q) → OnOk r P → OnOk r Q
 on-ok (Ok x) f p = f p
 on-ok (Err e) f p = p
 
-module _ {K : Type 0} (cmp : K → K → Ordering) where
+-- what a merge keeps of two lists of one kind, by tests whether the other has the key
+module _ {X : Type 0} (p q : X → Bool) (xs ys : List X) where
   same-either : (b : Bool) → cond b true true ≡ true
   same-either true = refl
   same-either false = refl
@@ -46,43 +48,48 @@ module _ {K : Type 0} (cmp : K → K → Ordering) where
   as-is true = refl
   as-is false = refl
 
-  -- the three merges
+  kept-all : filter (λ x. cond (p x) true true) xs ++ filter (λ y. cond (q y) false true) ys ≡ xs ++ filter (λ y. not (q y)) ys
+  kept-all =
+      ap (λ us. us ++ filter (λ y. cond (q y) false true) ys) (filter-same (λ x. cond (p x) true true) (λ x. true) xs (λ x i. same-either (p x)) ∙ filter-all xs)
+      ∙ ap (λ us. xs ++ us) (filter-same (λ y. cond (q y) false true) (λ y. not (q y)) ys (λ y i. not-is (q y)))
+
+  kept-none : filter (λ y. cond (q y) false false) ys ≡ []
+  kept-none = filter-same (λ y. cond (q y) false false) (λ y. false) ys (λ y i. none-either (q y)) ∙ filter-none ys
+
+  kept-both : filter (λ x. cond (p x) true false) xs ++ filter (λ y. cond (q y) false false) ys ≡ filter p xs
+  kept-both = ap (λ us. filter (λ x. cond (p x) true false) xs ++ us) kept-none ∙ append-none _ ∙ filter-same (λ x. cond (p x) true false) p xs (λ x i. as-is (p x))
+
+  kept-first : filter (λ x. cond (p x) false true) xs ++ filter (λ y. cond (q y) false false) ys ≡ filter (λ x. not (p x)) xs
+  kept-first = ap (λ us. filter (λ x. cond (p x) false true) xs ++ us) kept-none ∙ append-none _ ∙ filter-same (λ x. cond (p x) false true) (λ x. not (p x)) xs (λ x i. not-is (p x))
+
+module _ {K : Type 0} (cmp : K → K → Ordering) where
+  -- the three merges of entries
   pub union-is : (E D : List (Entry K)) → merged cmp UNION E D ≡ union cmp E D
   unfolding merged
-  union-is E D =
-      ap (λ xs. xs ++ filter (λ d. cond (is_key cmp E d.key) false true) D) (filter-same (λ (e : Entry K). cond (is_key cmp D e.key) true true) (λ e. true) E (λ e i. same-either (is_key cmp D e.key)) ∙ filter-all E)
-      ∙ ap (λ ys. E ++ ys) (filter-same (λ (d : Entry K). cond (is_key cmp E d.key) false true) (λ d. not (is_key cmp E d.key)) D (λ d i. not-is (is_key cmp E d.key)))
+  union-is E D = kept-all (λ e. is_key cmp D e.key) (λ d. is_key cmp E d.key) E D
 
   pub both-is : (E D : List (Entry K)) → merged cmp BOTH E D ≡ both cmp E D
   unfolding merged
-  both-is E D =
-      ap (λ ys. filter (λ e. cond (is_key cmp D e.key) true false) E ++ ys) (filter-same (λ (d : Entry K). cond (is_key cmp E d.key) false false) (λ d. false) D (λ d i. none-either (is_key cmp E d.key)) ∙ filter-none D)
-      ∙ append-none _ ∙ filter-same (λ (e : Entry K). cond (is_key cmp D e.key) true false) (λ e. is_key cmp D e.key) E (λ e i. as-is (is_key cmp D e.key))
+  both-is E D = kept-both (λ e. is_key cmp D e.key) (λ d. is_key cmp E d.key) E D
 
   pub less-is : (E D : List (Entry K)) → merged cmp LESS E D ≡ less cmp E D
   unfolding merged
-  less-is E D =
-      ap (λ ys. filter (λ e. cond (is_key cmp D e.key) false true) E ++ ys) (filter-same (λ (d : Entry K). cond (is_key cmp E d.key) false false) (λ d. false) D (λ d i. none-either (is_key cmp E d.key)) ∙ filter-none D)
-      ∙ append-none _ ∙ filter-same (λ (e : Entry K). cond (is_key cmp D e.key) false true) (λ e. not (is_key cmp D e.key)) E (λ e i. not-is (is_key cmp D e.key))
+  less-is E D = kept-first (λ e. is_key cmp D e.key) (λ d. is_key cmp E d.key) E D
+
+  -- and of bindings
+  pub map-union-is : (M N : List (Binding K)) → map_merged cmp UNION M N ≡ map_union cmp M N
+  unfolding map_merged
+  map-union-is M N = kept-all (λ b. is_some (value_with cmp b.key N)) (λ c. is_some (value_with cmp c.key M)) M N
+
+  pub map-both-is : (M N : List (Binding K)) → map_merged cmp BOTH M N ≡ map_both cmp M N
+  unfolding map_merged
+  map-both-is M N = kept-both (λ b. is_some (value_with cmp b.key N)) (λ c. is_some (value_with cmp c.key M)) M N
+
+  pub map-less-is : (M N : List (Binding K)) → map_merged cmp LESS M N ≡ map_less cmp M N
+  unfolding map_merged
+  map-less-is M N = kept-first (λ b. is_some (value_with cmp b.key N)) (λ c. is_some (value_with cmp c.key M)) M N
 
   module _ (F : Forms K) where
-    zip-append : (E : List (Entry K)) (M : List (Binding K)) (D : List (Entry K)) (N : List (Binding K)) → AllZip (IsPair F) E M → AllZip (IsPair F) D N → AllZip (IsPair F) (E ++ D) (M ++ N)
-    zip-append [] [] D N one two = two
-    zip-append [] (b ∷ M) D N one two = absurd one
-    zip-append (e ∷ E) [] D N one two = absurd one
-    zip-append (e ∷ E) (b ∷ M) D N one two = (one.0, zip-append E M D N one.1 two)
-
-    zip-filter : (p : Entry K → Bool) (q : Binding K → Bool) → ((e : Entry K) (b : Binding K) → IsPair F e b → p e ≡ q b) → (E : List (Entry K)) (M : List (Binding K)) → AllZip (IsPair F) E M → AllZip (IsPair F) (filter p E) (filter q M)
-    zip-filter p q same [] [] zip = tt
-    zip-filter p q same [] (b ∷ M) zip = absurd zip
-    zip-filter p q same (e ∷ E) [] zip = absurd zip
-    zip-filter p q same (e ∷ E) (b ∷ M) zip =
-        subst (λ t. AllZip (IsPair F) (cond (p e) (e ∷ filter p E) (filter p E)) (cond t (b ∷ filter q M) (filter q M))) (same e b zip.0) (by_test (p e) (zip-filter p q same E M zip.1))
-      where
-        by_test : (t : Bool) → AllZip (IsPair F) (filter p E) (filter q M) → AllZip (IsPair F) (cond t (e ∷ filter p E) (filter p E)) (cond t (b ∷ filter q M) (filter q M))
-        by_test true rest = (zip.0, rest)
-        by_test false rest = rest
-
     key-bound : (key : K) (E : List (Entry K)) (M : List (Binding K)) → AllZip (IsPair F) E M → is_key cmp E key ≡ is_some (value_with cmp key M)
     key-bound key E M pairs = by_link (link_with cmp key E) refl
       where
@@ -90,10 +97,16 @@ module _ {K : Type 0} (cmp : K → K → Ordering) where
         by_link None is = ap is_some is ∙ sym (ap is_some (absent-map F cmp key E M pairs is))
         by_link (Some x) is = ap is_some is ∙ sym (ap is_some (found-pairs F cmp key E M x pairs is).here)
 
-    pub union-pairs : (E : List (Entry K)) (M : List (Binding K)) (D : List (Entry K)) (N : List (Binding K)) → AllZip (IsPair F) E M → AllZip (IsPair F) D N → AllZip (IsPair F) (union cmp E D) (map_union cmp M N)
-    union-pairs E M D N one two =
-        zip-append E M _ _ one (zip-filter (λ d. not (is_key cmp E d.key)) (λ c. not (is_some (value_with cmp c.key M)))
-        (λ d c pair. ap not (key-bound d.key E M one) ∙ ap (λ key. not (is_some (value_with cmp key M))) (sym pair.key)) D N two)
+    -- an entry and its binding have one key
+    bound-as : (E : List (Entry K)) (M : List (Binding K)) → AllZip (IsPair F) E M → (d : Entry K) (c : Binding K) → IsPair F d c → is_key cmp E d.key ≡ is_some (value_with cmp c.key M)
+    bound-as E M pairs d c pair = key-bound d.key E M pairs ∙ ap (λ key. is_some (value_with cmp key M)) (sym pair.key)
+
+    pub merged-pairs : (k : Keeps) (E : List (Entry K)) (M : List (Binding K)) (D : List (Entry K)) (N : List (Binding K)) → AllZip (IsPair F) E M → AllZip (IsPair F) D N → AllZip (IsPair F) (merged cmp k E D) (map_merged cmp k M N)
+    unfolding merged map_merged
+    merged-pairs k E M D N one two =
+        zip-joined (IsPair F) _ _ _ _
+        (zip-filter (IsPair F) (λ e. cond (is_key cmp D e.key) k.both k.first) (λ b. cond (is_some (value_with cmp b.key N)) k.both k.first) (λ e b pair. ap (λ t. cond t k.both k.first) (bound-as D N two e b pair)) E M one)
+        (zip-filter (IsPair F) (λ d. cond (is_key cmp E d.key) false k.second) (λ c. cond (is_some (value_with cmp c.key M)) false k.second) (λ d c pair. ap (λ t. cond t false k.second) (bound-as E M one d c pair)) D N two)
 
 module _ {T : Type 0} (cmp : T → T → Ordering) (code : T → ℕ) {old new : Heap T} (more : Extends old new) (r s : Root) (root : ℕ) where
   -- the merged set
@@ -108,12 +121,12 @@ module _ {T : Type 0} (cmp : T → T → Ordering) (code : T → ℕ) {old new :
   }
 
   -- the merged map
-  pub map-merged : (M N : List (Binding T)) (one : IsMapOf cmp code old r M) (two : IsMapOf cmp code old s N) → IsTrieOf cmp code r.bits new root (merged cmp UNION one.entries two.entries)
-      → IsMapOf cmp code new (record { root = root; bits = r.bits }) (map_union cmp M N)
-  map-merged M N one two trie = record {
-    entries = union cmp one.entries two.entries;
-    rooted = record { bits = one.rooted.bits; trie = subst (IsTrieOf cmp code r.bits new root) (union-is cmp one.entries two.entries) trie };
-    pairs = union-pairs cmp (form_at new) one.entries M two.entries N (pairs-kept (form_at old) (form_at new) (forms-kept old new more) one.entries M one.pairs)
+  pub map-merged : (k : Keeps) (M N : List (Binding T)) (one : IsMapOf cmp code old r M) (two : IsMapOf cmp code old s N) → IsTrieOf cmp code r.bits new root (merged cmp k one.entries two.entries)
+      → IsMapOf cmp code new (record { root = root; bits = r.bits }) (map_merged cmp k M N)
+  map-merged k M N one two trie = record {
+    entries = merged cmp k one.entries two.entries;
+    rooted = record { bits = one.rooted.bits; trie = trie };
+    pairs = merged-pairs cmp (form_at new) k one.entries M two.entries N (pairs-kept (form_at old) (form_at new) (forms-kept old new more) one.entries M one.pairs)
         (pairs-kept (form_at old) (form_at new) (forms-kept old new more) two.entries N two.pairs);
   }
 
@@ -153,14 +166,12 @@ module _ {T : Type 0} (cmp : T → T → Ordering) (code : T → ℕ) (old : Hea
     pub set-answer : Extends old new → (k : Keeps) (E D : List (Entry T)) → IsSetOf cmp code old a E → IsSetOf cmp code old b D → IsTrieOf cmp code roots.bits new l (merged cmp k E D) → IsSetOf cmp code new made (merged cmp k E D)
     set-answer more k E D one two trie = subst (λ r. IsSetOf cmp code new r (merged cmp k E D)) (sym made-whole) (set-merged cmp code more a b l k E D one two (trie-as (merged cmp k E D) trie))
 
-    pub entries-answer : (E D : List (Entry T)) → HasEntries cmp code old a E → IsTrieOf cmp code roots.bits new l (merged cmp UNION E D) → HasEntries cmp code new made (union cmp E D)
-    entries-answer E D one trie =
-        subst (λ r. HasEntries cmp code new r (union cmp E D)) (sym made-whole)
-        (record { bits = one.bits; trie = subst (IsTrieOf cmp code a.bits new l) (union-is cmp E D) (trie-as (merged cmp UNION E D) trie) })
+    pub entries-answer : (k : Keeps) (E D : List (Entry T)) → HasEntries cmp code old a E → IsTrieOf cmp code roots.bits new l (merged cmp k E D) → HasEntries cmp code new made (merged cmp k E D)
+    entries-answer k E D one trie = subst (λ r. HasEntries cmp code new r (merged cmp k E D)) (sym made-whole) (record { bits = one.bits; trie = trie-as (merged cmp k E D) trie })
 
-    pub map-answer : Extends old new → (M N : List (Binding T)) (one : IsMapOf cmp code old a M) (two : IsMapOf cmp code old b N) → IsTrieOf cmp code roots.bits new l (merged cmp UNION one.entries two.entries) → IsMapOf cmp code new made (map_union cmp M N)
-    map-answer more M N one two trie =
-        subst (λ r. IsMapOf cmp code new r (map_union cmp M N)) (sym made-whole) (map-merged cmp code more a b l M N one two (trie-as (merged cmp UNION one.entries two.entries) trie))
+    pub map-answer : Extends old new → (k : Keeps) (M N : List (Binding T)) (one : IsMapOf cmp code old a M) (two : IsMapOf cmp code old b N) → IsTrieOf cmp code roots.bits new l (merged cmp k one.entries two.entries) → IsMapOf cmp code new made (map_merged cmp k M N)
+    map-answer more k M N one two trie =
+        subst (λ r. IsMapOf cmp code new r (map_merged cmp k M N)) (sym made-whole) (map-merged cmp code more a b l k M N one two (trie-as (merged cmp k one.entries two.entries) trie))
 
     pub bits-answer : made.bits ≡ a.bits
     bits-answer = ap (λ (r : Root). r.bits) made-whole

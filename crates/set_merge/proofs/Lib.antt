@@ -6,6 +6,7 @@ pub mod CountLemmas
 pub mod WalkLemmas
 pub mod NeedSteps
 pub mod RootLemmas
+pub mod ZipLemmas
 pub mod KindLemmas
 pub mod RunLemmas
 pub mod CutLemmas
