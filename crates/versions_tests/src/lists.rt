@@ -345,6 +345,62 @@ fn makes_a_way_only_where_it_is_shared(rt: HostRuntime) -> Result<(), Fail> {
     check_makes_a_way_only_where_it_is_shared(&rt, &mut lists)
 }
 
+// The same of pops, which take a number off the second leaf.
+fn check_pops_a_way_only_where_it_is_shared(
+    rt: &impl Abort,
+    lists: &mut Lists<Num>,
+) -> Result<(), Fail> {
+    let list = counted(rt, lists, 40)?;
+    assert_eq!(rt; rows_of(rt, lists, list, Edit::Pop), 0);
+    let kept = made(rt, lists, list, Making::Copy)?;
+    // The leaf and the root, and nothing again.
+    assert_eq!(rt; rows_of(rt, lists, list, Edit::Pop), 2);
+    assert_eq!(rt; rows_of(rt, lists, list, Edit::Pop), 0);
+    assert_eq!(rt; total(rt, lists, list), 703);
+    assert_eq!(rt; total(rt, lists, kept), 780);
+    Ok(())
+}
+
+#[test]
+fn pops_a_way_only_where_it_is_shared(rt: HostRuntime) -> Result<(), Fail> {
+    let mut lists = Lists::new(rt.alloc());
+    check_pops_a_way_only_where_it_is_shared(&rt, &mut lists)
+}
+
+// The numbers of the version, doubled so many times.
+fn doubled(
+    rt: &impl Abort,
+    lists: &mut Lists<Num>,
+    list: Version,
+    times: u32,
+) -> Result<Version, Fault> {
+    let mut version = list;
+    for _time in 0..times {
+        version = joined(rt, lists, version, version)?;
+    }
+    Ok(version)
+}
+
+// Lists of 2^30 numbers that share all rows but those on one way. To look at each number would take long.
+fn check_compares_lists_that_share_rows(
+    rt: &impl Abort,
+    lists: &mut Lists<Num>,
+) -> Result<(), Fail> {
+    let one = counted(rt, lists, 1)?;
+    let list = doubled(rt, lists, one, 30)?;
+    let equal = made(rt, lists, list, Making::Set(9, 1))?;
+    let other = made(rt, lists, list, Making::Set(9, 2))?;
+    assert!(rt; alike(lists, list, equal));
+    assert!(rt; !alike(lists, list, other));
+    Ok(())
+}
+
+#[test]
+fn compares_lists_that_share_rows(rt: HostRuntime) -> Result<(), Fail> {
+    let mut lists = Lists::new(rt.alloc());
+    check_compares_lists_that_share_rows(&rt, &mut lists)
+}
+
 // Whether just these two versions are held.
 fn holds_two(lists: &Lists<Num>, one: Version, two: Version) -> bool {
     let mut held = lists.versions();

@@ -130,10 +130,10 @@ fn made_rows(maps: &Maps<Num, u32>) -> u64 {
     maps.parts().0.made()
 }
 
-// How many rows the insertion of 1 at the key makes.
-fn rows_of(rt: &impl Abort, maps: &mut Maps<Num, u32>, version: Version, key: u32) -> u64 {
+// How many rows the edit makes.
+fn rows_of(rt: &impl Abort, maps: &mut Maps<Num, u32>, version: Version, change: Change) -> u64 {
     let before = made_rows(maps);
-    edit(rt, maps, version, Change::Insert(key, 1));
+    edit(rt, maps, version, change);
     made_rows(maps).wrapping_sub(before)
 }
 
@@ -141,19 +141,40 @@ fn rows_of(rt: &impl Abort, maps: &mut Maps<Num, u32>, version: Version, key: u3
 fn check_makes_a_way_of_maps_only_where_it_is_shared(rt: &impl Abort, maps: &mut Maps<Num, u32>) {
     let map = four_and(rt, maps, 36, 1);
     // The key, the value and their pair alone, as both rows are the version's own.
-    assert_eq!(rt; rows_of(rt, maps, map, 68), 3);
+    assert_eq!(rt; rows_of(rt, maps, map, Change::Insert(68, 1)), 3);
     let before = made_rows(maps);
     made(rt, maps, map, Change::Copy);
     assert_eq!(rt; made_rows(maps), before);
     // With both rows, and alone again.
-    assert_eq!(rt; rows_of(rt, maps, map, 100), 5);
-    assert_eq!(rt; rows_of(rt, maps, map, 132), 3);
+    assert_eq!(rt; rows_of(rt, maps, map, Change::Insert(100, 1)), 5);
+    assert_eq!(rt; rows_of(rt, maps, map, Change::Insert(132, 1)), 3);
 }
 
 #[test]
 fn makes_a_way_of_maps_only_where_it_is_shared(rt: HostRuntime) {
     let mut maps = Maps::new(rt.alloc());
     check_makes_a_way_of_maps_only_where_it_is_shared(&rt, &mut maps);
+}
+
+// The same of removals, which leave two entries or more in that row.
+fn check_cuts_a_way_of_maps_only_where_it_is_shared(rt: &impl Abort, maps: &mut Maps<Num, u32>) {
+    let map = four_and(rt, maps, 36, 1);
+    for key in [68, 100, 132] {
+        edit(rt, maps, map, Change::Insert(key, 1));
+    }
+    assert_eq!(rt; rows_of(rt, maps, map, Change::Remove(68)), 0);
+    let kept = made(rt, maps, map, Change::Copy);
+    // Both rows, and nothing again.
+    assert_eq!(rt; rows_of(rt, maps, map, Change::Remove(100)), 2);
+    assert_eq!(rt; rows_of(rt, maps, map, Change::Remove(132)), 0);
+    assert!(rt; sums(maps, map) == Some((2, 41)));
+    assert!(rt; sums(maps, kept) == Some((4, 43)));
+}
+
+#[test]
+fn cuts_a_way_of_maps_only_where_it_is_shared(rt: HostRuntime) {
+    let mut maps = Maps::new(rt.alloc());
+    check_cuts_a_way_of_maps_only_where_it_is_shared(&rt, &mut maps);
 }
 
 // The entries of either version.

@@ -179,10 +179,10 @@ fn made_rows(sets: &Sets<Num>) -> u64 {
     sets.parts().0.made()
 }
 
-// How many rows the insertion of the number makes.
-fn rows_of(rt: &impl Abort, sets: &mut Sets<Num>, version: Version, number: u32) -> u64 {
+// How many rows the edit makes.
+fn rows_of(rt: &impl Abort, sets: &mut Sets<Num>, version: Version, making: Making) -> u64 {
     let before = made_rows(sets);
-    edit(rt, sets, version, Making::Insert(number));
+    edit(rt, sets, version, making);
     made_rows(sets).wrapping_sub(before)
 }
 
@@ -190,19 +190,40 @@ fn rows_of(rt: &impl Abort, sets: &mut Sets<Num>, version: Version, number: u32)
 fn check_makes_a_way_of_sets_only_where_it_is_shared(rt: &impl Abort, sets: &mut Sets<Num>) {
     let set = four_and(rt, sets, 36);
     // The cell alone, as both rows are the version's own.
-    assert_eq!(rt; rows_of(rt, sets, set, 68), 1);
+    assert_eq!(rt; rows_of(rt, sets, set, Making::Insert(68)), 1);
     let before = made_rows(sets);
     made(rt, sets, set, Making::Copy);
     assert_eq!(rt; made_rows(sets), before);
     // With both rows, and alone again.
-    assert_eq!(rt; rows_of(rt, sets, set, 100), 3);
-    assert_eq!(rt; rows_of(rt, sets, set, 132), 1);
+    assert_eq!(rt; rows_of(rt, sets, set, Making::Insert(100)), 3);
+    assert_eq!(rt; rows_of(rt, sets, set, Making::Insert(132)), 1);
 }
 
 #[test]
 fn makes_a_way_of_sets_only_where_it_is_shared(rt: HostRuntime) {
     let mut sets = Sets::new(rt.alloc());
     check_makes_a_way_of_sets_only_where_it_is_shared(&rt, &mut sets);
+}
+
+// The same of removals, which leave two numbers or more in that row.
+fn check_cuts_a_way_of_sets_only_where_it_is_shared(rt: &impl Abort, sets: &mut Sets<Num>) {
+    let set = four_and(rt, sets, 36);
+    for number in [68, 100, 132] {
+        edit(rt, sets, set, Making::Insert(number));
+    }
+    assert_eq!(rt; rows_of(rt, sets, set, Making::Remove(68)), 0);
+    let kept = made(rt, sets, set, Making::Copy);
+    // Both rows, and nothing again.
+    assert_eq!(rt; rows_of(rt, sets, set, Making::Remove(100)), 2);
+    assert_eq!(rt; rows_of(rt, sets, set, Making::Remove(132)), 0);
+    assert!(rt; sums(sets, set) == Some((2, 40)));
+    assert!(rt; sums(sets, kept) == Some((4, 272)));
+}
+
+#[test]
+fn cuts_a_way_of_sets_only_where_it_is_shared(rt: HostRuntime) {
+    let mut sets = Sets::new(rt.alloc());
+    check_cuts_a_way_of_sets_only_where_it_is_shared(&rt, &mut sets);
 }
 
 // Whether both versions are held and have equal keys.
