@@ -6,6 +6,8 @@ use Rattle.std.specs.List.{AllZip}
 use Rattle.std.specs.declared.cmp.Ordering.{Ordering}
 use Rattle.elem_core.specs.declared.codes.TheConstants.{CODE_BITS, LEVELS}
 use Rattle.node_heap.specs.Heap.{Heap}
+use Rattle.node_heap.specs.Calls.{Answered, MakesJust}
+use Rattle.node_heap.proofs.CallerLemmas.{IsGraph-kinds}
 use Rattle.champ_chain.specs.Entry.{Entry}
 use Rattle.champ_chain.proofs.SetLemmas.{same-count}
 use Rattle.champ_trie.specs.Trie.{code_by}
@@ -66,3 +68,11 @@ module _ {K V : Type 0} (cmp : K → K → Ordering) (value_cmp : V → V → Or
 -- where the key was absent, nothing but the root is made
 pub none-few : {T : Type 0} {before after : Heap T} (was room more : ℕ) → room ≡ was → before.made ≤ room + (0 + 1) → after ≡ before → after.made ≤ was + (UNBOUND_HERE_NODES + more)
 none-few {T} was room more rest opens same = omega (arith, rest, opens, ap (λ (x : Heap T). x.made) same)
+
+-- a call that frees nothing makes as many rows as come
+pub rows-made : {T : Type 0} {old new : Heap T} {l c n : ℕ} → Answered old new [] l c n → MakesJust old new → new.made ≤ old.made + (c + n)
+rows-made {T} {old} {new} answered just = omega (arith, just, answered.cells, answered.nodes, IsGraph-kinds old, IsGraph-kinds new)
+
+-- and none where the root is the old one
+pub none-made : {T : Type 0} {old mid : Heap T} (new : Heap T) (more : ℕ) → mid ≡ old → new.made ≤ mid.made → new.made ≤ old.made + more
+none-made {T} new more same few = omega (arith, few, ap (λ (h : Heap T). h.made) same)

@@ -1,10 +1,12 @@
 //! The roots of new sets, and what one asks of a set by its root.
-ghost use Rattle.std.specs.Prelude.{◌≡◌, ◌↔◌, ◌<◌, List, [], IfOk, IfErr, OnErr, IsTrue, length};
+ghost use Rattle.std.specs.Prelude.{◌≡◌, ◌↔◌, ◌+◌, ◌<◌, ◌≤◌, List, [], IfOk, IfErr, OnOk, OnErr, IsTrue, length};
 ghost use Rattle.std.specs.BTreeSet.{insert_key};
+ghost use Rattle.elem_core.specs.declared.codes.TheConstants.{LEVELS};
 ghost use Rattle.node_heap.specs.Heap.{hold_count, quarter_holds, HasSpares};
+ghost use Rattle.champ_trie.specs.declared.TheConstants.{ADD_NODES};
 ghost use Rattle.versions.specs.Roots.{Makes};
 ghost use Rattle.versions.specs.Sorted.{has, remove_key};
-ghost use Rattle.versions.specs.Keyed.{IsKeySet};
+ghost use Rattle.versions.specs.Keyed.{alike, IsKeySet};
 
 use champ_kinds::{MapFault, Set, SetRef, set_insert, set_remove};
 use elem_core::{CODE_BITS, Element, NoMemory, Probe};
@@ -26,7 +28,8 @@ pub(crate) fn no_keys<K: Element>(heap: &mut Heap<K>) -> Link
 pub(crate) fn same_keys<K: Element>(heap: &mut Heap<K>, root: Link) -> Link
     requires set { (ks : List K) × IsKeySet K.cmp K.code_of heap.old root ks }
     requires few { hold_count heap.old < quarter_holds }
-    ensures { (ks : List K) → IsKeySet K.cmp K.code_of heap.old root ks → Makes (IsKeySet K.cmp K.code_of) heap.old heap.new result ks }
+    ensures makes { (ks : List K) → IsKeySet K.cmp K.code_of heap.old root ks → Makes (IsKeySet K.cmp K.code_of) heap.old heap.new result ks }
+    ensures rows { heap.new.made ≤ heap.old.made }
 {
     heap.hold(root);
     root
@@ -38,6 +41,8 @@ pub(crate) fn with_key<K: Element>(heap: &mut Heap<K>, root: Link, key: K) -> Re
     requires few { hold_count heap.old < quarter_holds }
     ensures made { (ks : List K) → IsKeySet K.cmp K.code_of heap.old root ks →
         IfOk result (λ l. Makes (IsKeySet K.cmp K.code_of) heap.old heap.new l (insert_key K.cmp ks key)) }
+    ensures rows { (ks : List K) → IsKeySet K.cmp K.code_of heap.old root ks →
+        OnOk result (heap.new.made ≤ heap.old.made + (1 + ADD_NODES + alike K.code_of key ks)) }
     ensures back { IfErr result (λ k. k ≡ key) }
     ensures refused { OnErr result (heap.new ≡ heap.old) }
 {
@@ -57,6 +62,8 @@ pub(crate) fn without_key<K: Element, P: Probe<K>>(
     requires few { hold_count heap.old < quarter_holds }
     ensures made { (ks : List K) → IsKeySet K.cmp K.code_of heap.old root ks →
         IfOk result (λ l. Makes (IsKeySet K.cmp K.code_of) heap.old heap.new l (remove_key K.cmp ks (P.stands_for key.now))) }
+    ensures rows { (ks : List K) → IsKeySet K.cmp K.code_of heap.old root ks →
+        OnOk result (heap.new.made ≤ heap.old.made + (LEVELS + alike K.code_of (P.stands_for key.now) ks)) }
     ensures refused { OnErr result (heap.new ≡ heap.old) }
 {
     match set_remove(heap, SetRef::at(root, CODE_BITS), key)? {

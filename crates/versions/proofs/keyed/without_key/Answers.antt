@@ -1,6 +1,10 @@
-use Rattle.std.proofs.Common.{ap, sym, subst, ◌∙◌, Ok}
+use Rattle.std.proofs.Common.{ap, sym, subst, ◌∙◌, Ok, ◌+◌, arith}
+use Rattle.elem_core.specs.declared.codes.TheConstants.{LEVELS}
+use Rattle.champ_trie.specs.Reach.{alike_to}
+use Rattle.champ_kinds.specs.Root.{Root}
 use Rattle.versions.specs.Roots.{Makes}
-use Rattle.versions.specs.Keyed.{by_root, keys_at, IsKeySet}
+use Rattle.versions.specs.Keyed.{alike, by_root, keys_at, IsKeySet}
+use Rattle.versions.proofs.AlikeLemmas.{none-made, rows-made, set-alike}
 use Rattle.versions.proofs.KeyedLemmas.{set-kind, set-without, set-lacks, answered-makes, if-some, if-none}
 use Rattle.champ_kinds.proofs.StayLemmas.{set-seen}
 use Rattle.versions.proofs.keyed.without_key.Goals as goal
@@ -22,4 +26,14 @@ returns-in-None-clause-made g c = λ ks is.
     let same = if-none c.in-None.is c.in_ok-set.ensures.nothing in
     let lacks = set-lacks g.K.Ord.cmp o g.K.Element.code_of c.args.heap.now c.args.root (g.P.Probe.stands_for c.args.key.now) ks is ((c.set_remove.ensures.absent is.entries seen).0 (c.in_ok-set.was ∙ ap Ok c.in-None.is)) in
     subst (λ js. Makes Is c.args.heap.now c.same_keys.new.heap c.same_keys.result js) (sym lacks)
-    (subst (λ h. Makes Is h c.same_keys.new.heap c.same_keys.result ks) same (c.same_keys.ensures ks (subst (λ h. Is h c.args.root ks) (sym same) is)))
+    (subst (λ h. Makes Is h c.same_keys.new.heap c.same_keys.result ks) same (c.same_keys.ensures.makes ks (subst (λ h. Is h c.args.root ks) (sym same) is)))
+
+pub returns-in-Some-clause-rows : goal.returns-in-Some-clause-rows
+returns-in-Some-clause-rows g c = λ ks is.
+    let key = g.P.Probe.stands_for c.args.key.now in
+    let made = c.in_ok-set.ensures in
+    let few = rows-made (if-some _ c.in-Some.is (made.answered is.entries (set-seen {r = by_root c.args.root} c.at.ensures is.set))) made.made in
+    omega (arith, few, ap (λ (r : Root). alike_to g.K.Element.code_of r.bits key is.entries) c.at.ensures, set-alike g.K.Ord.cmp g.met.K.Ord.total g.K.Element.code_of c.args.heap.now c.args.root key ks is)
+
+pub returns-in-None-clause-rows : goal.returns-in-None-clause-rows
+returns-in-None-clause-rows g c = λ ks is. none-made c.same_keys.new.heap (LEVELS + alike g.K.Element.code_of (g.P.Probe.stands_for c.args.key.now) ks) (if-none c.in-None.is c.in_ok-set.ensures.nothing) c.same_keys.ensures.rows
