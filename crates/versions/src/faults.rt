@@ -10,7 +10,7 @@ pub enum Fault {
     /// The list would have 2^32 elements or more.
     #[error("the list is too long")]
     Long,
-    /// The index is past the end.
+    /// The list has no such element, place or part.
     #[error("the index is out of range")]
     Range,
     /// Memory ran out, or the store has 2^50 versions.
