@@ -19,6 +19,7 @@ use Rattle.champ_kinds.specs.Binding.{Binding}
 use Rattle.champ_kinds.specs.Laws.{GoOneToOne}
 use Rattle.champ_kinds.proofs.StayLemmas.{map-seen}
 use Rattle.champ_kinds.proofs.ZipLemmas.{one-to-one-turned, zip-flip, zip-follows}
+use Rattle.same_value.specs.Apart.{HasApart}
 use Rattle.same_value.specs.Cells.{IsCellLink, IsSameCell}
 use Rattle.same_value.specs.Contents.{AreSameMaps, AreSameSets, IsMapWith, IsSameBinding}
 use Rattle.versions.specs.declared.piece.Piece.{Piece}
@@ -30,6 +31,11 @@ use Rattle.versions.specs.Bound.{IsBoundTo, IsKeyMap}
 use Rattle.versions.proofs.SortLemmas.{AreOnce, by_keys-same, same-by_keys, same-sorted, sorted-same}
 use Rattle.versions.proofs.KeyedLemmas.{keys-once}
 use Rattle.versions.proofs.BoundLemmas.{map-once, order-same}
+
+-- the rows that one root reaches and another doesn't are those of the links that they were made of
+pub apart-seen : {T : Type 0} (h : Heap T) (rows : List ℕ) {q w : Root} {l m : ℕ} → q ≡ by_root l → w ≡ by_root m → HasApart (form_at h) l m rows → HasApart (form_at h) q.root w.root rows
+apart-seen h rows {w = w} {l = l} at beside apart =
+    subst (λ (r : Root). HasApart (form_at h) r.root w.root rows) (sym at) (subst (λ (r : Root). HasApart (form_at h) l r.root rows) (sym beside) apart)
 
 -- two lists go one to one where others do, whose elements stand for theirs
 module _ {X Y : Type 0} (B : X → Y → Type 0) (R : X → X → Type 0) (S : Y → Y → Type 0) (so : (x z : X) (y w : Y) → B x y → B z w → R x z → S y w) where
