@@ -33,5 +33,5 @@ pub use keys::Keys;
 pub use lists::Lists;
 pub use maps::Maps;
 pub use piece::Piece;
-pub use roots::{Handles, Version};
+pub use roots::{Handles, MOST_VERSIONS, Version};
 pub use sets::Sets;

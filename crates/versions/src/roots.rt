@@ -70,8 +70,8 @@ impl<'s> Iterator for Handles<'s> {
     }
 }
 
-// The most versions of a store. More roots take more bytes than any machine has.
-const MOST_VERSIONS: usize = 1 << 50;
+/// The most versions of a store. More roots take more bytes than any machine has.
+pub const MOST_VERSIONS: usize = 1 << 50;
 
 // The root of a version that is held.
 pub(crate) fn root_of(roots: &Slab<Link>, version: Version) -> Link

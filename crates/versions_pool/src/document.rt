@@ -17,12 +17,10 @@ use pool_text::{
 };
 use serde_json::{Value, json};
 use std::alloc::{AllocError, Global};
+use versions::MOST_VERSIONS;
 
 /// The version of the documents that are written, and the only one that is read.
 pub const STORE_VERSION: u32 = 1;
-
-// The most versions of a store.
-const MOST_VERSIONS: usize = 1 << 50;
 
 // What a document says: the numbers of the versions, the place of the root of each, and the rows.
 #[derive(Drop)]
