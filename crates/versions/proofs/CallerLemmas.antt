@@ -11,7 +11,7 @@ use Rattle.versions.specs.Store.{Versions, Holds, list_of}
 use Rattle.versions.specs.History.{IsApart, AreHeld, lists_of}
 use Rattle.versions.specs.Sorted.{entries_of}
 use Rattle.versions.proofs.RootLemmas.{tied-same, tied-other}
-pub use Rattle.versions.proofs.UnionLemmas.{found-union, has-both, has-less, has-union}
+pub use Rattle.versions.proofs.UnionLemmas.{found-both, found-less, found-union, has-both, has-less, has-union}
 
 module _ {V : Type 0} (m : Versions V) where
   -- a version that was made, and those beside it

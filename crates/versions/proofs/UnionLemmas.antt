@@ -11,8 +11,8 @@ use Rattle.std.specs.List.{filter, list_any}
 use Rattle.std.proofs.lemmas.List.Folds.{list_any-append}
 use Rattle.champ_chain.specs.Entry.{SameSet, same_none, same_first, same_turned, same_through}
 use Rattle.champ_chain.proofs.SetLemmas.{same-refl, same-sym, same-filter}
-use Rattle.versions.specs.Sorted.{both, by_keys, has, lacked, less, map_union, sorted_keys, union}
-use Rattle.versions.proofs.SortLemmas.{AreOnce, by_keys-same, find-by_keys, has-sorted, is-equal, same-by_keys, same-sorted, sorted-same, where-sorted}
+use Rattle.versions.specs.Sorted.{both, by_keys, has, less, map_both, map_less, map_union, sorted_keys, union}
+use Rattle.versions.proofs.SortLemmas.{AreOnce, by_keys-same, find-by_keys, has-sorted, is-equal, same-by_keys, same-sorted, sorted-same, where-by_keys, where-sorted}
 
 module _ {X : Type 0} where
   same-front : (xs us ys : List X) → SameSet xs us → SameSet (xs ++ ys) (us ++ ys)
@@ -85,7 +85,17 @@ module _ {K : Type 0} (R : K → K → Ordering) (o : IsTotalOrder R) where
       either false b = refl
 
 module _ {K V : Type 0} (R : K → K → Ordering) (o : IsTotalOrder R) where
-  pub union-by_keys : (es ds : List (K × V)) → AreOnce R es → AreOnce R ds → AreOnce R (es ++ lacked R es ds) → by_keys R (es ++ lacked R es ds) ≡ map_union R (by_keys R es) (by_keys R ds)
+  -- equal keys stand in the same maps
+  bound-alike : (es : List (K × V)) (x y : K) → R x y ≡ Equal → is_some (find R x es) ≡ is_some (find R y es)
+  bound-alike es x y tie = ap is_some (sym (find_tied R o x y tie es))
+
+  pub both-by_keys : (es ds : List (K × V)) → by_keys R (map_both R es ds) ≡ map_both R (by_keys R es) (by_keys R ds)
+  both-by_keys es ds = where-by_keys R o (λ k. is_some (find R k ds)) (bound-alike ds) es ∙ filter-as _ _ (λ e. ap is_some (sym (find-by_keys R o e.0 ds))) (by_keys R es)
+
+  pub less-by_keys : (es ds : List (K × V)) → by_keys R (map_less R es ds) ≡ map_less R (by_keys R es) (by_keys R ds)
+  less-by_keys es ds = where-by_keys R o (λ k. not (is_some (find R k ds))) (λ x y tie. ap not (bound-alike ds x y tie)) es ∙ filter-as _ _ (λ e. ap (λ r. not (is_some r)) (sym (find-by_keys R o e.0 ds))) (by_keys R es)
+
+  pub union-by_keys : (es ds : List (K × V)) → AreOnce R es → AreOnce R ds → AreOnce R (es ++ map_less R ds es) → by_keys R (es ++ map_less R ds es) ≡ map_union R (by_keys R es) (by_keys R ds)
   union-by_keys es ds first second once =
       let rest = same-filter (λ (d : K × V). not (is_some (find R d.0 es))) ds (by_keys R ds) (same-sym _ _ (by_keys-same R o ds second)) in
       same-by_keys R o _ _ (same-joined es (by_keys R es) _ _ (same-sym _ _ (by_keys-same R o es first)) rest) once
@@ -99,10 +109,20 @@ module _ {K V : Type 0} (R : K → K → Ordering) (o : IsTotalOrder R) where
         | false ↦ find-joined q es ds
       ]
 
-  -- what a merged map has at a key: what the first has there, and else what the second has
+  -- what merged maps have at a key: what the first has there, where it passes; of a union else what the second has
+  pub found-both : (q : K) (es ds : List (K × V)) → find R q (map_both R es ds) ≡ cond (is_some (find R q ds)) (find R q es) None
+  found-both q es ds = find-where_key R (λ k. is_some (find R k ds)) q (λ x tie. sym (bound-alike ds q x tie)) es
+
+  pub found-less : (q : K) (es ds : List (K × V)) → find R q (map_less R es ds) ≡ cond (is_some (find R q ds)) None (find R q es)
+  found-less q es ds = find-where_key R (λ k. not (is_some (find R k ds))) q (λ x tie. ap not (sym (bound-alike ds q x tie))) es ∙ turned (is_some (find R q ds)) (find R q es)
+    where
+      turned : (b : Bool) (r : Option V) → cond (not b) r None ≡ cond b None r
+      turned true r = refl
+      turned false r = refl
+
   pub found-union : (q : K) (es ds : List (K × V)) → find R q (map_union R es ds) ≡ cond (is_some (find R q es)) (find R q es) (find R q ds)
   found-union q es ds =
-      find-by_keys R o q (es ++ lacked R es ds) ∙ find-joined q es (lacked R es ds)
+      find-by_keys R o q (es ++ map_less R ds es) ∙ find-joined q es (map_less R ds es)
       ∙ ap (cond (is_some (find R q es)) (find R q es)) (find-where_key R (λ k. not (is_some (find R k es))) q (λ x tie. ap (λ r. not (is_some r)) (find_tied R o q x tie es)) ds) ∙ either (find R q es) (find R q ds)
     where
       either : (r s : Option V) → cond (is_some r) r (cond (not (is_some r)) s None) ≡ cond (is_some r) r s

@@ -53,13 +53,17 @@ module _ {K : Type 0} (cmp : K → K → Ordering) where
     by_keys [] = []
     by_keys (e ∷ es) = put cmp e.0 e.1 (by_keys es)
 
-    -- the entries with keys that a map lacks
-    abbrev pub lacked : List (K × V) → List (K × V) → List (K × V)
-    lacked es others = where_key cmp (λ k. not (is_some (find cmp k es))) others
+    -- the entries of a map with keys that the other has too
+    abbrev pub map_both : List (K × V) → List (K × V) → List (K × V)
+    map_both es others = where_key cmp (λ k. is_some (find cmp k others)) es
+
+    -- the entries of a map with keys that the other lacks
+    abbrev pub map_less : List (K × V) → List (K × V) → List (K × V)
+    map_less es others = where_key cmp (λ k. not (is_some (find cmp k others))) es
 
     -- the entries of a map, and those of the other with keys that it lacks
     abbrev pub map_union : List (K × V) → List (K × V) → List (K × V)
-    map_union es others = by_keys (es ++ lacked es others)
+    map_union es others = by_keys (es ++ map_less others es)
 
     -- the keys are equal, and so are the values
     abbrev pub IsEqualEntry : (V → V → Ordering) → K × V → K × V → Type 0

@@ -6,7 +6,7 @@ ghost use Rattle.std.specs.List.{AllZip};
 ghost use Rattle.champ_chain.specs.Entry.{SameSet};
 ghost use Rattle.versions.specs.Store.{Holds};
 ghost use Rattle.versions.specs.declared.faults.Fault.TheVariants.{Memory};
-ghost use Rattle.versions.specs.Sorted.{IsEqualEntry, entries_of, map_union, remove_entry};
+ghost use Rattle.versions.specs.Sorted.{IsEqualEntry, entries_of, map_both, map_less, map_union, remove_entry};
 
 use crate::bound::{
     entry_count, has_no_entry, no_entries, same_entries, value_with, with_entry, without_entry,
@@ -15,7 +15,7 @@ use crate::bound_here::{bound_here, unbound_here};
 use crate::entries::Entries;
 use crate::equal::same_maps;
 use crate::faults::Refused;
-use crate::merging::entries_of_either;
+use crate::merging::{entries_of_both, entries_of_either, entries_of_first};
 use crate::piece::Piece;
 use crate::roots::{
     Handles, Version, forget, is_kept, keep, put as put_root, reserve, root_of, versions_of,
@@ -131,6 +131,36 @@ impl<K: Element, V: Ord + Drop> Maps<K, V> {
         let second = root_of(&self.roots, second);
         reserve(&mut self.heap, &mut self.roots, 0, 0)?;
         let root = entries_of_either(&mut self.heap, first, second)?;
+        Ok(keep(&mut self.roots, root))
+    }
+
+    /// The entries of the first version whose keys the second has too. Both versions stay.
+    pub fn both(&mut self, first: Version, second: Version) -> Result<Version, NoMemory>
+        requires first { Holds self.old first }
+        requires second { Holds self.old second }
+        ensures fresh { IfOk result (λ v. map.get self.old v ≡ None) }
+        ensures made { IfOk result (λ v. self.new ≡ map.insert self.old v (map_both K.cmp (entries_of self.old first) (entries_of self.old second))) }
+        ensures refused { OnErr result (self.new ≡ self.old) }
+    {
+        let first = root_of(&self.roots, first);
+        let second = root_of(&self.roots, second);
+        reserve(&mut self.heap, &mut self.roots, 0, 0)?;
+        let root = entries_of_both(&mut self.heap, first, second)?;
+        Ok(keep(&mut self.roots, root))
+    }
+
+    /// The entries of the first version whose keys the second lacks. Both versions stay.
+    pub fn less(&mut self, first: Version, second: Version) -> Result<Version, NoMemory>
+        requires first { Holds self.old first }
+        requires second { Holds self.old second }
+        ensures fresh { IfOk result (λ v. map.get self.old v ≡ None) }
+        ensures made { IfOk result (λ v. self.new ≡ map.insert self.old v (map_less K.cmp (entries_of self.old first) (entries_of self.old second))) }
+        ensures refused { OnErr result (self.new ≡ self.old) }
+    {
+        let first = root_of(&self.roots, first);
+        let second = root_of(&self.roots, second);
+        reserve(&mut self.heap, &mut self.roots, 0, 0)?;
+        let root = entries_of_first(&mut self.heap, first, second)?;
         Ok(keep(&mut self.roots, root))
     }
 

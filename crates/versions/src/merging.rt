@@ -2,7 +2,7 @@
 ghost use Rattle.std.specs.Prelude.{◌≡◌, ◌<◌, List, IfOk, OnErr};
 ghost use Rattle.node_heap.specs.Heap.{hold_count, quarter_holds};
 ghost use Rattle.versions.specs.Roots.{Makes};
-ghost use Rattle.versions.specs.Sorted.{both, less, map_union as map_union_of, union};
+ghost use Rattle.versions.specs.Sorted.{both, less, map_both as map_both_of, map_less as map_less_of, map_union as map_union_of, union};
 ghost use Rattle.versions.specs.Keyed.{IsKeySet};
 ghost use Rattle.versions.specs.Bound.{IsKeyMap};
 
@@ -10,7 +10,7 @@ use crate::piece::Piece;
 use champ_kinds::{MapRef, SetRef};
 use elem_core::{CODE_BITS, Element, NoMemory};
 use node_heap::{Heap, Link};
-use set_merge::{map_union, set_both, set_less, set_union};
+use set_merge::{map_both, map_less, map_union, set_both, set_less, set_union};
 
 // The set of the keys of either. Err where memory runs out.
 pub(crate) fn keys_of_either<K: Element>(
@@ -85,5 +85,43 @@ pub(crate) fn entries_of_either<K: Element, V: Ord + Drop>(
     let first = MapRef::at(first, CODE_BITS);
     let second = MapRef::at(second, CODE_BITS);
     let map = map_union(heap, first, second)?;
+    Ok(map.into_root())
+}
+
+// The map of the entries of the first whose keys are in both. Err where memory runs out.
+pub(crate) fn entries_of_both<K: Element, V: Ord + Drop>(
+    heap: &mut Heap<Piece<K, V>>,
+    first: Link,
+    second: Link,
+) -> Result<Link, NoMemory>
+    requires first { (es : List (K × V)) × IsKeyMap K.cmp V.cmp K.code_of heap.old first es }
+    requires second { (ds : List (K × V)) × IsKeyMap K.cmp V.cmp K.code_of heap.old second ds }
+    requires few { hold_count heap.old < quarter_holds }
+    ensures made { (es ds : List (K × V)) → IsKeyMap K.cmp V.cmp K.code_of heap.old first es → IsKeyMap K.cmp V.cmp K.code_of heap.old second ds →
+        IfOk result (λ l. Makes (IsKeyMap K.cmp V.cmp K.code_of) heap.old heap.new l (map_both_of K.cmp es ds)) }
+    ensures refused { OnErr result (heap.new ≡ heap.old) }
+{
+    let first = MapRef::at(first, CODE_BITS);
+    let second = MapRef::at(second, CODE_BITS);
+    let map = map_both(heap, first, second)?;
+    Ok(map.into_root())
+}
+
+// The map of the entries of the first whose keys are in it alone. Err where memory runs out.
+pub(crate) fn entries_of_first<K: Element, V: Ord + Drop>(
+    heap: &mut Heap<Piece<K, V>>,
+    first: Link,
+    second: Link,
+) -> Result<Link, NoMemory>
+    requires first { (es : List (K × V)) × IsKeyMap K.cmp V.cmp K.code_of heap.old first es }
+    requires second { (ds : List (K × V)) × IsKeyMap K.cmp V.cmp K.code_of heap.old second ds }
+    requires few { hold_count heap.old < quarter_holds }
+    ensures made { (es ds : List (K × V)) → IsKeyMap K.cmp V.cmp K.code_of heap.old first es → IsKeyMap K.cmp V.cmp K.code_of heap.old second ds →
+        IfOk result (λ l. Makes (IsKeyMap K.cmp V.cmp K.code_of) heap.old heap.new l (map_less_of K.cmp es ds)) }
+    ensures refused { OnErr result (heap.new ≡ heap.old) }
+{
+    let first = MapRef::at(first, CODE_BITS);
+    let second = MapRef::at(second, CODE_BITS);
+    let map = map_less(heap, first, second)?;
     Ok(map.into_root())
 }
