@@ -1,6 +1,7 @@
 -- What stands at roots stands wherever every row stays, and beside what a call made.
-use Rattle.std.proofs.Common.{◌≡◌, ◌+◌, ℕ, List, [], ◌∷◌, ◌++◌, Result, Ok, Err, ap, sym, subst, arith, length-append}
+use Rattle.std.proofs.Common.{◌≡◌, ◌+◌, ℕ, Bool, List, [], ◌∷◌, ◌++◌, Result, Ok, Err, ap, sym, subst, arith, length-append}
 use Rattle.std.specs.Prelude.{IfOk, IsOk, Some, option_map}
+use Rattle.std.specs.List.{filter}
 use Rattle.std.specs.declared.cmp.Ordering.{Ordering}
 use Rattle.std.proofs.lemmas.List.Elements.{All-weaker, All-push, All-append, All-filter}
 use Rattle.node_heap.specs.Forms.{cell, form_of}
@@ -42,6 +43,13 @@ module _ {T : Type 0} {old new : Heap T} (extends : Extends old new) where
           values = All-append IsCell first.0 _ (All-weaker WasCell IsCell stays first.0 first.1.values) (All-filter _ IsCell second.0 (All-weaker WasCell IsCell stays second.0 second.1.values));
         },
       )
+
+  -- so is what a map of cells has left
+  pub cells-left : (cmp : T → T → Ordering) (code : T → ℕ) {a r : Root} (p : Binding T → Bool) (first : IsCellMap cmp code old a) → IsMapOf cmp code new r (filter p first.0) → IsCellMap cmp code new r
+  cells-left cmp code p first made =
+      let WasCell = λ (b : Binding T). IsCellLink (form_at old) b.value in
+      let IsCell = λ (b : Binding T). IsCellLink (form_at new) b.value in
+      (filter p first.0, record { map = made; values = All-filter p IsCell first.0 (All-weaker WasCell IsCell (λ b cell. cell-stays b.value cell) first.0 first.1.values) })
 
   pub tries-stay : (cmp : T → T → Ordering) (code : T → ℕ) (bits : ℕ) → Keeps (IsSomeTrie cmp code bits) old new
   tries-stay cmp code bits l is = (is.0, KeepsTries-Extends old new extends cmp _ l is.0 is.1)

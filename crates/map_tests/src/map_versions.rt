@@ -11,7 +11,10 @@ use champ_kinds::{Map, MapRef, map_insert, map_remove};
 use elem_core::{CODE_BITS, Element, NoMemory, Probe};
 use node_heap::{Glass, Heap, Link, Steps};
 use same_value::{Values, equal_cells, equal_map};
-use set_merge::{map_union, map_union_need, map_union_there};
+use set_merge::{
+    map_both, map_both_need, map_both_there, map_less, map_less_need, map_less_there, map_union,
+    map_union_need, map_union_there,
+};
 use std::alloc::Global;
 use std::marker::{Brand, Model};
 use std::process::Abort;
@@ -108,6 +111,34 @@ fn united<T: Element>(heap: &mut Heap<T>, a: MapRef, b: MapRef) -> Result<MapRef
     Ok(held(made))
 }
 
+// The entries of the first of two maps by as many bits whose keys are in the second.
+fn common<T: Element>(heap: &mut Heap<T>, a: MapRef, b: MapRef) -> Result<MapRef, NoMemory>
+    requires first { IsCellMap T.cmp T.code_of heap.old a }
+    requires second { IsCellMap T.cmp T.code_of heap.old b }
+    requires bits { a.bits ≡ b.bits }
+    requires few { hold_count heap.old < half_holds }
+    ensures good { IfOk result (IsCellMap T.cmp T.code_of heap.new) }
+    ensures others { IfOk result (λ _. Keeps (IsCellMap T.cmp T.code_of) heap.old heap.new) }
+    ensures count { IfOk result (λ _. hold_count heap.new ≡ hold_count heap.old + 1) }
+{
+    let made = map_both(heap, a, b)?;
+    Ok(held(made))
+}
+
+// The entries of the first of two maps by as many bits whose keys aren't in the second.
+fn rest<T: Element>(heap: &mut Heap<T>, a: MapRef, b: MapRef) -> Result<MapRef, NoMemory>
+    requires first { IsCellMap T.cmp T.code_of heap.old a }
+    requires second { IsCellMap T.cmp T.code_of heap.old b }
+    requires bits { a.bits ≡ b.bits }
+    requires few { hold_count heap.old < half_holds }
+    ensures good { IfOk result (IsCellMap T.cmp T.code_of heap.new) }
+    ensures others { IfOk result (λ _. Keeps (IsCellMap T.cmp T.code_of) heap.old heap.new) }
+    ensures count { IfOk result (λ _. hold_count heap.new ≡ hold_count heap.old + 1) }
+{
+    let made = map_less(heap, a, b)?;
+    Ok(held(made))
+}
+
 // The union, of spares that are made before.
 fn united_there<T: Element>(heap: &mut Heap<T>, a: MapRef, b: MapRef) -> Result<MapRef, NoMemory>
     requires first { IsCellMap T.cmp T.code_of heap.old a }
@@ -121,6 +152,38 @@ fn united_there<T: Element>(heap: &mut Heap<T>, a: MapRef, b: MapRef) -> Result<
     let need = map_union_need(heap, a, b);
     heap.reserve(0, need)?;
     let made = map_union_there(heap, a, b);
+    Ok(held(made))
+}
+
+// The intersection, likewise.
+fn common_there<T: Element>(heap: &mut Heap<T>, a: MapRef, b: MapRef) -> Result<MapRef, NoMemory>
+    requires first { IsCellMap T.cmp T.code_of heap.old a }
+    requires second { IsCellMap T.cmp T.code_of heap.old b }
+    requires bits { a.bits ≡ b.bits }
+    requires few { hold_count heap.old < half_holds }
+    ensures good { IfOk result (IsCellMap T.cmp T.code_of heap.new) }
+    ensures others { IfOk result (λ _. Keeps (IsCellMap T.cmp T.code_of) heap.old heap.new) }
+    ensures count { IfOk result (λ _. hold_count heap.new ≡ hold_count heap.old + 1) }
+{
+    let need = map_both_need(heap, a, b);
+    heap.reserve(0, need)?;
+    let made = map_both_there(heap, a, b);
+    Ok(held(made))
+}
+
+// The entries of the first alone, likewise.
+fn rest_there<T: Element>(heap: &mut Heap<T>, a: MapRef, b: MapRef) -> Result<MapRef, NoMemory>
+    requires first { IsCellMap T.cmp T.code_of heap.old a }
+    requires second { IsCellMap T.cmp T.code_of heap.old b }
+    requires bits { a.bits ≡ b.bits }
+    requires few { hold_count heap.old < half_holds }
+    ensures good { IfOk result (IsCellMap T.cmp T.code_of heap.new) }
+    ensures others { IfOk result (λ _. Keeps (IsCellMap T.cmp T.code_of) heap.old heap.new) }
+    ensures count { IfOk result (λ _. hold_count heap.new ≡ hold_count heap.old + 1) }
+{
+    let need = map_less_need(heap, a, b);
+    heap.reserve(0, need)?;
+    let made = map_less_there(heap, a, b);
     Ok(held(made))
 }
 
@@ -208,6 +271,24 @@ impl<T: Element> MapVersions<T> {
         kept(rt, &mut self.maps, made)
     }
 
+    /// The entries of the first of two by as many bits whose keys are in the second.
+    pub fn meet(&mut self, rt: &impl Abort, left: usize, right: usize) -> usize {
+        let left = map_at(rt, &self.heap, &self.maps, left);
+        let right = map_at(rt, &self.heap, &self.maps, right);
+        assert!(rt; left.bits() == right.bits());
+        let made = common(&mut self.heap, left, right);
+        kept(rt, &mut self.maps, made)
+    }
+
+    /// The entries of the first of two by as many bits whose keys aren't in the second.
+    pub fn lose(&mut self, rt: &impl Abort, left: usize, right: usize) -> usize {
+        let left = map_at(rt, &self.heap, &self.maps, left);
+        let right = map_at(rt, &self.heap, &self.maps, right);
+        assert!(rt; left.bits() == right.bits());
+        let made = rest(&mut self.heap, left, right);
+        kept(rt, &mut self.maps, made)
+    }
+
     /// That of `unite`, of spares that are made before.
     pub fn unite_there(&mut self, rt: &impl Abort, left: usize, right: usize) -> usize {
         let left = map_at(rt, &self.heap, &self.maps, left);
@@ -217,12 +298,46 @@ impl<T: Element> MapVersions<T> {
         kept(rt, &mut self.maps, made)
     }
 
+    /// That of `meet`, likewise.
+    pub fn meet_there(&mut self, rt: &impl Abort, left: usize, right: usize) -> usize {
+        let left = map_at(rt, &self.heap, &self.maps, left);
+        let right = map_at(rt, &self.heap, &self.maps, right);
+        assert!(rt; left.bits() == right.bits());
+        let made = common_there(&mut self.heap, left, right);
+        kept(rt, &mut self.maps, made)
+    }
+
+    /// That of `lose`, likewise.
+    pub fn lose_there(&mut self, rt: &impl Abort, left: usize, right: usize) -> usize {
+        let left = map_at(rt, &self.heap, &self.maps, left);
+        let right = map_at(rt, &self.heap, &self.maps, right);
+        assert!(rt; left.bits() == right.bits());
+        let made = rest_there(&mut self.heap, left, right);
+        kept(rt, &mut self.maps, made)
+    }
+
     /// How many rows that of `unite` may make.
-    pub fn need(&self, rt: &impl Abort, left: usize, right: usize) -> usize {
+    pub fn unite_need(&self, rt: &impl Abort, left: usize, right: usize) -> usize {
         let left = map_at(rt, &self.heap, &self.maps, left);
         let right = map_at(rt, &self.heap, &self.maps, right);
         assert!(rt; left.bits() == right.bits());
         map_union_need(&self.heap, left, right)
+    }
+
+    /// How many rows that of `meet` may make.
+    pub fn meet_need(&self, rt: &impl Abort, left: usize, right: usize) -> usize {
+        let left = map_at(rt, &self.heap, &self.maps, left);
+        let right = map_at(rt, &self.heap, &self.maps, right);
+        assert!(rt; left.bits() == right.bits());
+        map_both_need(&self.heap, left, right)
+    }
+
+    /// How many rows that of `lose` may make.
+    pub fn lose_need(&self, rt: &impl Abort, left: usize, right: usize) -> usize {
+        let left = map_at(rt, &self.heap, &self.maps, left);
+        let right = map_at(rt, &self.heap, &self.maps, right);
+        assert!(rt; left.bits() == right.bits());
+        map_less_need(&self.heap, left, right)
     }
 
     /// By how many bits the one of this turn is.

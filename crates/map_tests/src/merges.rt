@@ -1,10 +1,10 @@
-//! Union, intersection and difference of sets of numbers, and the union of maps.
+//! Union, intersection and difference of sets of numbers and of maps.
 use crate::map_versions::MapVersions;
 use crate::set_versions::SetVersions;
 use elem_core::{CODE_BITS, Num};
 use std::process::Abort;
 
-// Which merge of two sets: the keys of both, those in both, or those in the first alone.
+// Which merge of two sets or maps: the keys of both, those in both, or those in the first alone.
 #[derive(Clone, Copy)]
 enum Merge {
     Union,
@@ -226,39 +226,127 @@ fn merges_equal_sets_made_apart(rt: HostRuntime) {
     check_merges_equal_sets_made_apart(&rt, &mut sets);
 }
 
-// Where both maps have a key, the first one's value counts.
-fn check_merges_maps(rt: &impl Abort, maps: &mut MapVersions<Num>) {
-    let left = maps.insert(rt, 0, Num(1), Num(10));
-    let left = maps.insert(rt, left, Num(33), Num(11));
-    let right = maps.insert(rt, 0, Num(33), Num(12));
-    let right = maps.insert(rt, right, Num(2), Num(13));
-    let need = maps.need(rt, left, right);
+// How many rows a merge of two maps may make, and its turn.
+fn merged_map(
+    rt: &impl Abort,
+    maps: &mut MapVersions<Num>,
+    left: usize,
+    right: usize,
+    kind: Merge,
+) -> (usize, usize) {
+    match kind {
+        Merge::Union => {
+            let need = maps.unite_need(rt, left, right);
+            (need, maps.unite(rt, left, right))
+        }
+        Merge::Both => {
+            let need = maps.meet_need(rt, left, right);
+            (need, maps.meet(rt, left, right))
+        }
+        Merge::Less => {
+            let need = maps.lose_need(rt, left, right);
+            (need, maps.lose(rt, left, right))
+        }
+    }
+}
+
+// The map without keys, with these values at these keys.
+fn map_of(rt: &impl Abort, maps: &mut MapVersions<Num>, entries: &[(u32, u32)]) -> usize {
+    let mut turn = 0;
+    for entry in entries {
+        let (key, value) = *entry;
+        turn = maps.insert(rt, turn, Num(key), Num(value));
+    }
+    turn
+}
+
+// That a merge of two small maps has just these entries, and makes no more rows than its need.
+fn merges_maps_to(
+    rt: &impl Abort,
+    maps: &mut MapVersions<Num>,
+    left: usize,
+    right: usize,
+    kind: Merge,
+    entries: &[(u32, u32)],
+) {
     let rows = maps.live();
-    let made = maps.unite(rt, left, right);
+    let (need, turn) = merged_map(rt, maps, left, right, kind);
     assert!(rt; maps.live().wrapping_sub(rows) <= need);
-    assert!(rt; maps.len(rt, made) == 3);
-    assert!(rt; maps.is_bound(rt, made, &Num(1), &Num(10)));
-    assert!(rt; maps.is_bound(rt, made, &Num(2), &Num(13)));
-    assert!(rt; maps.is_bound(rt, made, &Num(33), &Num(11)));
+    assert!(rt; maps.len(rt, turn) == entries.len());
+    // The same entries put in one by one make an equal map.
+    let plain = map_of(rt, maps, entries);
+    assert!(rt; maps.are_equal(rt, turn, plain));
+}
+
+// Where both maps have a key, the first one's value counts. By seven bits 1 and 129 make a chain, and 33 and 161.
+fn merge_small_maps(rt: &impl Abort, maps: &mut MapVersions<Num>) {
+    let left = map_of(rt, maps, &[(1, 10), (33, 11), (129, 12), (2, 13)]);
+    let right = map_of(rt, maps, &[(33, 21), (2, 22), (3, 23), (161, 24)]);
+    let merges: [(usize, usize, Merge, &[(u32, u32)]); 7] = [
+        (
+            left,
+            right,
+            Merge::Union,
+            &[(1, 10), (33, 11), (129, 12), (2, 13), (3, 23), (161, 24)],
+        ),
+        (left, right, Merge::Both, &[(33, 11), (2, 13)]),
+        (right, left, Merge::Both, &[(33, 21), (2, 22)]),
+        (left, right, Merge::Less, &[(1, 10), (129, 12)]),
+        (right, left, Merge::Less, &[(3, 23), (161, 24)]),
+        (left, 0, Merge::Both, &[]),
+        (left, left, Merge::Less, &[]),
+    ];
+    for (first, second, kind, entries) in merges {
+        merges_maps_to(rt, maps, first, second, kind, entries);
+    }
     let same = maps.unite(rt, left, left);
+    assert!(rt; maps.are_one(rt, same, left));
+    let same = maps.meet(rt, left, left);
     assert!(rt; maps.are_one(rt, same, left));
 }
 
 #[test]
-fn merges_maps(rt: HostRuntime) {
-    let mut maps: MapVersions<Num> = MapVersions::start(&rt, rt.alloc(), CODE_BITS);
-    check_merges_maps(&rt, &mut maps);
+fn merges_maps_of_chains(rt: HostRuntime) {
+    let mut maps: MapVersions<Num> = MapVersions::start(&rt, rt.alloc(), 0);
+    merge_small_maps(&rt, &mut maps);
 }
 
-// The same map comes of spares that are made before.
+#[test]
+fn merges_maps_by_seven_bits(rt: HostRuntime) {
+    let mut maps: MapVersions<Num> = MapVersions::start(&rt, rt.alloc(), 7);
+    merge_small_maps(&rt, &mut maps);
+}
+
+#[test]
+fn merges_maps_by_all_bits(rt: HostRuntime) {
+    let mut maps: MapVersions<Num> = MapVersions::start(&rt, rt.alloc(), CODE_BITS);
+    merge_small_maps(&rt, &mut maps);
+}
+
+// The same merge of maps by the call that takes spares.
+fn spared_map(
+    rt: &impl Abort,
+    maps: &mut MapVersions<Num>,
+    left: usize,
+    right: usize,
+    kind: Merge,
+) -> usize {
+    match kind {
+        Merge::Union => maps.unite_there(rt, left, right),
+        Merge::Both => maps.meet_there(rt, left, right),
+        Merge::Less => maps.lose_there(rt, left, right),
+    }
+}
+
+// The same maps come of spares that are made before.
 fn check_merges_maps_of_spares(rt: &impl Abort, maps: &mut MapVersions<Num>) {
-    let left = maps.insert(rt, 0, Num(1), Num(10));
-    let left = maps.insert(rt, left, Num(33), Num(11));
-    let right = maps.insert(rt, 0, Num(33), Num(12));
-    let right = maps.insert(rt, right, Num(2), Num(13));
-    let plain = maps.unite(rt, left, right);
-    let spared = maps.unite_there(rt, left, right);
-    assert!(rt; maps.are_equal(rt, plain, spared));
+    let left = map_of(rt, maps, &[(1, 10), (33, 11)]);
+    let right = map_of(rt, maps, &[(33, 12), (2, 13)]);
+    for kind in [Merge::Union, Merge::Both, Merge::Less] {
+        let (_need, plain) = merged_map(rt, maps, left, right, kind);
+        let spared = spared_map(rt, maps, left, right, kind);
+        assert!(rt; maps.are_equal(rt, plain, spared));
+    }
 }
 
 #[test]
