@@ -177,20 +177,49 @@ fn cuts_a_way_of_maps_only_where_it_is_shared(rt: HostRuntime) {
     check_cuts_a_way_of_maps_only_where_it_is_shared(&rt, &mut maps);
 }
 
-// The entries of either version.
-fn united(rt: &impl Abort, maps: &mut Maps<Num, u32>, first: Version, second: Version) -> Version {
+// A call that makes a version of two others.
+#[derive(Clone, Copy, Drop)]
+enum Merge {
+    Union,
+    Both,
+    Less,
+}
+
+// The version that the call makes of both.
+fn merged(
+    rt: &impl Abort,
+    maps: &mut Maps<Num, u32>,
+    first: Version,
+    second: Version,
+    merge: Merge,
+) -> Version {
     assert!(rt; maps.holds(first) && maps.holds(second));
-    maps.union(first, second).expect(rt, "memory")
+    let made = match merge {
+        Merge::Union => maps.union(first, second),
+        Merge::Both => maps.both(first, second),
+        Merge::Less => maps.less(first, second),
+    };
+    made.expect(rt, "memory")
 }
 
 fn check_merges_maps(rt: &impl Abort, maps: &mut Maps<Num, u32>) {
     let first = four_and(rt, maps, 7, 70);
     let second = four_and(rt, maps, 9, 90);
     let other = made(rt, maps, second, Change::Insert(4, 41));
-    let union = united(rt, maps, first, other);
-    assert!(rt; sums(maps, union) == Some((3, 200)));
-    assert!(rt; value(maps, union, 4) == Some(40));
-    assert!(rt; value(maps, other, 4) == Some(41));
+    let cases = [
+        (first, other, Merge::Union, (3, 200), Some(40)),
+        (first, other, Merge::Both, (1, 40), Some(40)),
+        (other, first, Merge::Both, (1, 41), Some(41)),
+        (first, other, Merge::Less, (1, 70), None),
+        (other, first, Merge::Less, (1, 90), None),
+    ];
+    for (left, right, merge, told, four) in cases {
+        let version = merged(rt, maps, left, right, merge);
+        assert!(rt; sums(maps, version) == Some(told));
+        assert!(rt; value(maps, version, 4) == four);
+        assert!(rt; sums(maps, first) == Some((2, 110)));
+        assert!(rt; sums(maps, other) == Some((2, 131)));
+    }
 }
 
 #[test]
