@@ -1,8 +1,10 @@
 //! The roots of new maps, and what one asks of a map by its root.
-ghost use Rattle.std.specs.Prelude.{◌≡◌, ◌↔◌, ◌<◌, List, [], IfOk, IfErr, OnErr, IsTrue, length, option_copied};
+ghost use Rattle.std.specs.Prelude.{◌≡◌, ◌↔◌, ◌+◌, ◌<◌, ◌≤◌, List, [], map, IfOk, IfErr, OnOk, OnErr, IsTrue, length, option_copied};
 ghost use Rattle.std.specs.FinMap.{find, put};
+ghost use Rattle.elem_core.specs.declared.codes.TheConstants.{LEVELS};
 ghost use Rattle.node_heap.specs.Heap.{hold_count, quarter_holds, HasSpares};
 ghost use Rattle.versions.specs.Roots.{Makes};
+ghost use Rattle.versions.specs.Keyed.{alike};
 ghost use Rattle.versions.specs.Sorted.{remove_entry};
 ghost use Rattle.versions.specs.Bound.{IsKeyMap};
 
@@ -31,8 +33,9 @@ pub(crate) fn same_entries<K: Element, V: Ord + Drop>(
 ) -> Link
     requires map { (es : List (K × V)) × IsKeyMap K.cmp V.cmp K.code_of heap.old root es }
     requires few { hold_count heap.old < quarter_holds }
-    ensures { (es : List (K × V)) → IsKeyMap K.cmp V.cmp K.code_of heap.old root es →
+    ensures makes { (es : List (K × V)) → IsKeyMap K.cmp V.cmp K.code_of heap.old root es →
         Makes (IsKeyMap K.cmp V.cmp K.code_of) heap.old heap.new result es }
+    ensures rows { heap.new.made ≤ heap.old.made }
 {
     heap.hold(root);
     root
@@ -73,6 +76,8 @@ pub(crate) fn without_entry<K: Element, V: Ord + Drop, P: Probe<K>>(
     requires few { hold_count heap.old < quarter_holds }
     ensures made { (es : List (K × V)) → IsKeyMap K.cmp V.cmp K.code_of heap.old root es →
         IfOk result (λ l. Makes (IsKeyMap K.cmp V.cmp K.code_of) heap.old heap.new l (remove_entry K.cmp es (P.stands_for key.now))) }
+    ensures rows { (es : List (K × V)) → IsKeyMap K.cmp V.cmp K.code_of heap.old root es →
+        OnOk result (heap.new.made ≤ heap.old.made + (LEVELS + alike K.code_of (P.stands_for key.now) (map (λ e. e.0) es))) }
     ensures refused { OnErr result (heap.new ≡ heap.old) }
 {
     match map_remove(heap, MapRef::at(root, CODE_BITS), &KeyOf(key))? {

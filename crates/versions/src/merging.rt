@@ -1,6 +1,7 @@
 //! The roots of merged sets and maps.
-ghost use Rattle.std.specs.Prelude.{◌≡◌, ◌<◌, List, IfOk, OnErr};
-ghost use Rattle.node_heap.specs.Heap.{hold_count, quarter_holds};
+ghost use Rattle.std.specs.Prelude.{◌≡◌, ℕ, ◌+◌, ◌*◌, ◌<◌, ◌≤◌, List, length, IfOk, OnOk, OnErr};
+ghost use Rattle.node_heap.specs.Heap.{form_at, node_count, hold_count, quarter_holds};
+ghost use Rattle.same_value.specs.Apart.{HasApart};
 ghost use Rattle.versions.specs.Roots.{Makes};
 ghost use Rattle.versions.specs.Sorted.{both, less, map_both as map_both_of, map_less as map_less_of, map_union as map_union_of, union};
 ghost use Rattle.versions.specs.Keyed.{IsKeySet};
@@ -23,6 +24,8 @@ pub(crate) fn keys_of_either<K: Element>(
     requires few { hold_count heap.old < quarter_holds }
     ensures made { (ks js : List K) → IsKeySet K.cmp K.code_of heap.old first ks → IsKeySet K.cmp K.code_of heap.old second js →
         IfOk result (λ l. Makes (IsKeySet K.cmp K.code_of) heap.old heap.new l (union K.cmp ks js)) }
+    ensures apart { (rows others : List ℕ) → HasApart (form_at heap.old) first second rows → HasApart (form_at heap.old) second first others →
+        OnOk result (node_count heap.new ≤ node_count heap.old + 512 * (length rows + length others)) }
     ensures refused { OnErr result (heap.new ≡ heap.old) }
 {
     let first = SetRef::at(first, CODE_BITS);
@@ -42,6 +45,8 @@ pub(crate) fn keys_of_both<K: Element>(
     requires few { hold_count heap.old < quarter_holds }
     ensures made { (ks js : List K) → IsKeySet K.cmp K.code_of heap.old first ks → IsKeySet K.cmp K.code_of heap.old second js →
         IfOk result (λ l. Makes (IsKeySet K.cmp K.code_of) heap.old heap.new l (both K.cmp ks js)) }
+    ensures apart { (rows others : List ℕ) → HasApart (form_at heap.old) first second rows → HasApart (form_at heap.old) second first others →
+        OnOk result (node_count heap.new ≤ node_count heap.old + 512 * (length rows + length others)) }
     ensures refused { OnErr result (heap.new ≡ heap.old) }
 {
     let first = SetRef::at(first, CODE_BITS);
@@ -61,6 +66,8 @@ pub(crate) fn keys_of_first<K: Element>(
     requires few { hold_count heap.old < quarter_holds }
     ensures made { (ks js : List K) → IsKeySet K.cmp K.code_of heap.old first ks → IsKeySet K.cmp K.code_of heap.old second js →
         IfOk result (λ l. Makes (IsKeySet K.cmp K.code_of) heap.old heap.new l (less K.cmp ks js)) }
+    ensures apart { (rows others : List ℕ) → HasApart (form_at heap.old) first second rows → HasApart (form_at heap.old) second first others →
+        OnOk result (node_count heap.new ≤ node_count heap.old + (512 * (length rows + length others) + 1)) }
     ensures refused { OnErr result (heap.new ≡ heap.old) }
 {
     let first = SetRef::at(first, CODE_BITS);
@@ -80,6 +87,8 @@ pub(crate) fn entries_of_either<K: Element, V: Ord + Drop>(
     requires few { hold_count heap.old < quarter_holds }
     ensures made { (es ds : List (K × V)) → IsKeyMap K.cmp V.cmp K.code_of heap.old first es → IsKeyMap K.cmp V.cmp K.code_of heap.old second ds →
         IfOk result (λ l. Makes (IsKeyMap K.cmp V.cmp K.code_of) heap.old heap.new l (map_union_of K.cmp es ds)) }
+    ensures apart { (rows others : List ℕ) → HasApart (form_at heap.old) first second rows → HasApart (form_at heap.old) second first others →
+        OnOk result (node_count heap.new ≤ node_count heap.old + 512 * (length rows + length others)) }
     ensures refused { OnErr result (heap.new ≡ heap.old) }
 {
     let first = MapRef::at(first, CODE_BITS);
@@ -99,6 +108,8 @@ pub(crate) fn entries_of_both<K: Element, V: Ord + Drop>(
     requires few { hold_count heap.old < quarter_holds }
     ensures made { (es ds : List (K × V)) → IsKeyMap K.cmp V.cmp K.code_of heap.old first es → IsKeyMap K.cmp V.cmp K.code_of heap.old second ds →
         IfOk result (λ l. Makes (IsKeyMap K.cmp V.cmp K.code_of) heap.old heap.new l (map_both_of K.cmp es ds)) }
+    ensures apart { (rows others : List ℕ) → HasApart (form_at heap.old) first second rows → HasApart (form_at heap.old) second first others →
+        OnOk result (node_count heap.new ≤ node_count heap.old + 512 * (length rows + length others)) }
     ensures refused { OnErr result (heap.new ≡ heap.old) }
 {
     let first = MapRef::at(first, CODE_BITS);
@@ -118,6 +129,8 @@ pub(crate) fn entries_of_first<K: Element, V: Ord + Drop>(
     requires few { hold_count heap.old < quarter_holds }
     ensures made { (es ds : List (K × V)) → IsKeyMap K.cmp V.cmp K.code_of heap.old first es → IsKeyMap K.cmp V.cmp K.code_of heap.old second ds →
         IfOk result (λ l. Makes (IsKeyMap K.cmp V.cmp K.code_of) heap.old heap.new l (map_less_of K.cmp es ds)) }
+    ensures apart { (rows others : List ℕ) → HasApart (form_at heap.old) first second rows → HasApart (form_at heap.old) second first others →
+        OnOk result (node_count heap.new ≤ node_count heap.old + (512 * (length rows + length others) + 1)) }
     ensures refused { OnErr result (heap.new ≡ heap.old) }
 {
     let first = MapRef::at(first, CODE_BITS);
