@@ -43,14 +43,19 @@ impl fmt::Display for Error {
 impl error::Error for Error {}
 
 /// What the library says by a number.
+#[inline]
 pub(crate) fn told(code: u32) -> Result<(), Error> {
+    if code == 0 { Ok(()) } else { Err(refusal(code)) }
+}
+
+#[cold]
+fn refusal(code: u32) -> Error {
     match code {
-        0 => Ok(()),
-        2 => Err(Error::Version),
-        3 => Err(Error::Range),
-        4 => Err(Error::Long),
-        5 => Err(Error::Memory),
-        6 => Err(Error::Text),
+        2 => Error::Version,
+        3 => Error::Range,
+        4 => Error::Long,
+        5 => Error::Memory,
+        6 => Error::Text,
         code => unreachable!("the library has no answer {code} for a handle that it filled"),
     }
 }

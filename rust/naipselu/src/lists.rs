@@ -3,7 +3,7 @@
 use crate::error::Error;
 use crate::library;
 use crate::store::{Store, Version, place};
-use crate::value::{Value, read, within};
+use crate::value::{Value, within};
 use std::fmt;
 use std::iter::FusedIterator;
 use std::marker::PhantomData;
@@ -292,7 +292,7 @@ impl<T: Value> Lists<T> {
     pub fn get(&self, version: Version, index: usize) -> Result<Option<T>, Error> {
         let version = self.store.number(version)?;
         // The pointer and the length are those of a slice that lives for the call.
-        let found = read(|form, room| {
+        let found = T::read(|form, room| {
             let index = place(index)?;
             self.store.call(|handle| unsafe {
                 library::naipselu_lists_get(handle, version, index, form, room.as_mut_ptr(), room.len())

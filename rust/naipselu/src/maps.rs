@@ -4,7 +4,7 @@ use crate::error::Error;
 use crate::library::{self, Form};
 use crate::store::{Store, Version};
 use crate::value::crossing::Given;
-use crate::value::{Shown, Value, read, within};
+use crate::value::{Shown, Value, within};
 use std::fmt;
 use std::iter;
 use std::marker::PhantomData;
@@ -218,7 +218,7 @@ impl<K: Value, V: Value> Maps<K, V> {
     /// # Ok::<(), naipselu::Error>(())
     /// ```
     pub fn get(&self, version: Version, key: K::Given<'_>) -> Result<Option<V>, Error> {
-        within(read(|form, room| self.find(version, key, form, room)))
+        within(V::read(|form, room| self.find(version, key, form, room)))
     }
 
     /// Shows the value at the key.

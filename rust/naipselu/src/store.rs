@@ -4,7 +4,7 @@
 use crate::error::{Error, told};
 use crate::library::{Form, Handle, naipselu_free, naipselu_new};
 use crate::value::crossing::Given;
-use std::cell::RefCell;
+use std::cell::UnsafeCell;
 use std::fmt;
 use std::sync::atomic::{AtomicU64, Ordering};
 
@@ -46,9 +46,9 @@ pub(crate) type OfEntry =
 /// One that shows all that a version has, and answers by how many forms.
 pub(crate) type OfAll = unsafe extern "C" fn(&mut Handle, usize, *mut Form, usize, *mut u8, usize, &mut usize) -> u32;
 
-/// A store behind its handle. The library takes the handle for the time of a call, so a call that reads borrows it too.
+/// A store behind its handle. The library takes the handle for the time of a call, also of one that reads.
 pub(crate) struct Store {
-    handle: RefCell<Handle>,
+    handle: UnsafeCell<Handle>,
     name: u64,
     versions: usize,
 }
@@ -59,37 +59,43 @@ impl Store {
         let mut handle = Handle::null();
         told(naipselu_new(&mut handle))?;
         let name = NAMES.fetch_add(1, Ordering::Relaxed);
-        Ok(Store { handle: RefCell::new(handle), name, versions: 0 })
+        Ok(Store { handle: UnsafeCell::new(handle), name, versions: 0 })
     }
 
     /// The number of a version of this store.
+    #[inline]
     pub fn number(&self, version: Version) -> Result<usize, Error> {
         if version.store == self.name { Ok(version.number) } else { Err(Error::Version) }
     }
 
     /// The version that a call makes, which answers its number.
+    #[inline]
     pub fn make(&mut self, call: impl FnOnce(&Store) -> Result<usize, Error>) -> Result<Version, Error> {
         let number = call(self)?;
         self.versions += 1;
         Ok(Version { store: self.name, number })
     }
 
+    #[inline]
     pub fn forget(&mut self, call: OfOne<usize>, version: Version) -> Result<(), Error> {
         self.of_one(call, version)?;
         self.versions -= 1;
         Ok(())
     }
 
+    #[inline]
     pub fn of_one<A: Default>(&self, call: OfOne<A>, version: Version) -> Result<A, Error> {
         let version = self.number(version)?;
         self.ask(|handle, answer| call(handle, version, answer))
     }
 
+    #[inline]
     pub fn of_two<A: Default>(&self, call: OfTwo<A>, left: Version, right: Version) -> Result<A, Error> {
         let (left, right) = (self.number(left)?, self.number(right)?);
         self.ask(|handle, answer| call(handle, left, right, answer))
     }
 
+    #[inline]
     pub fn of_value<A: Default>(&self, call: OfValue<A>, version: Version, value: Given) -> Result<A, Error> {
         let version = self.number(version)?;
         let Given { form, text } = value;
@@ -97,6 +103,7 @@ impl Store {
         self.ask(|handle, answer| unsafe { call(handle, version, form, text.as_ptr(), text.len(), answer) })
     }
 
+    #[inline]
     pub fn of_place(&self, call: OfPlace, version: Version, index: usize, value: Given) -> Result<usize, Error> {
         let (version, index) = (self.number(version)?, place(index)?);
         let Given { form, text } = value;
@@ -104,6 +111,7 @@ impl Store {
         self.ask(|handle, answer| unsafe { call(handle, version, index, form, text.as_ptr(), text.len(), answer) })
     }
 
+    #[inline]
     pub fn of_entry(&self, call: OfEntry, version: Version, key: Given, value: Given) -> Result<usize, Error> {
         let version = self.number(version)?;
         let (text, other) = (key.text, value.text);
@@ -133,15 +141,18 @@ impl Store {
     }
 
     /// What a call puts into the place that it is given.
+    #[inline]
     pub fn ask<A: Default>(&self, call: impl FnOnce(&mut Handle, &mut A) -> u32) -> Result<A, Error> {
         let mut answer = A::default();
         self.call(|handle| call(handle, &mut answer))?;
         Ok(answer)
     }
 
-    /// A call.
+    /// A call of the library, which is all that `call` does with the handle.
+    #[inline]
     pub fn call(&self, call: impl FnOnce(&mut Handle) -> u32) -> Result<(), Error> {
-        told(call(&mut self.handle.borrow_mut()))
+        // The library calls nothing back, and a store stays on its thread, so no other call has the handle.
+        told(call(unsafe { &mut *self.handle.get() }))
     }
 
     /// Tells how many versions there are in the store of this name.
@@ -157,6 +168,7 @@ impl Drop for Store {
 }
 
 /// The index as the library takes it. No list is so long that a larger one is within it.
+#[inline]
 pub(crate) fn place(index: usize) -> Result<u32, Error> {
     u32::try_from(index).map_err(|_| Error::Range)
 }

@@ -40,12 +40,14 @@ pub mod crossing {
     }
 
     impl From<u64> for Given<'_> {
+        #[inline]
         fn from(number: u64) -> Self {
             Given { form: Form { is_text: false, number }, text: b"" }
         }
     }
 
     impl<'a> From<&'a str> for Given<'a> {
+        #[inline]
         fn from(text: &'a str) -> Given<'a> {
             Given { form: Form { is_text: true, number: 0 }, text: text.as_bytes() }
         }
@@ -58,13 +60,24 @@ pub mod crossing {
 
         /// The value of this form, whose bytes these begin with, where it is a text.
         fn shown(form: Form, bytes: &[u8]) -> Self;
+
+        /// The value that the library shows by its form and its bytes, which `ask` asks it for.
+        fn read(ask: impl Fn(&mut Form, &mut [u8]) -> Result<(), Error>) -> Result<Self, Error>;
     }
 
     impl Crosses for u64 {
         const ROOM: usize = 0;
 
+        #[inline]
         fn shown(form: Form, _: &[u8]) -> u64 {
             form.number
+        }
+
+        #[inline]
+        fn read(ask: impl Fn(&mut Form, &mut [u8]) -> Result<(), Error>) -> Result<u64, Error> {
+            let mut form = Form::default();
+            ask(&mut form, &mut [])?;
+            Ok(form.number)
         }
     }
 
@@ -74,24 +87,23 @@ pub mod crossing {
         fn shown(form: Form, bytes: &[u8]) -> String {
             std::str::from_utf8(&bytes[..form.number as usize]).expect("the library keeps UTF-8 alone").to_owned()
         }
-    }
-}
 
-/// The value that the library shows by its form and its bytes, which `ask` asks it for.
-pub(crate) fn read<T: Value>(ask: impl Fn(&mut Form, &mut [u8]) -> Result<(), Error>) -> Result<T, Error> {
-    let mut form = Form::default();
-    let mut room = [0; 64];
-    let room = &mut room[..T::ROOM];
-    ask(&mut form, room)?;
-    if !form.is_text || form.number as usize <= room.len() {
-        return Ok(T::shown(form, room));
+        fn read(ask: impl Fn(&mut Form, &mut [u8]) -> Result<(), Error>) -> Result<String, Error> {
+            let mut form = Form::default();
+            let mut room = [0; String::ROOM];
+            ask(&mut form, &mut room)?;
+            if form.number as usize <= room.len() {
+                return Ok(String::shown(form, &room));
+            }
+            let mut room = vec![0; form.number as usize];
+            ask(&mut form, &mut room)?;
+            Ok(String::shown(form, &room))
+        }
     }
-    let mut room = vec![0; form.number as usize];
-    ask(&mut form, &mut room)?;
-    Ok(T::shown(form, &room))
 }
 
 /// What was looked for, and none where the library has it not.
+#[inline]
 pub(crate) fn within<T>(found: Result<T, Error>) -> Result<Option<T>, Error> {
     match found {
         Ok(value) => Ok(Some(value)),
