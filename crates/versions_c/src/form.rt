@@ -1,5 +1,5 @@
 //! How a value crosses.
-ghost use Rattle.std.specs.Prelude.{◌≡◌, MatchOption, MatchResult};
+ghost use Rattle.std.specs.Prelude.{◌≡◌, IsTrue, MatchOption, MatchResult};
 ghost use Rattle.elem_core.specs.Shown.{line_bytes};
 ghost use Rattle.total_versions.specs.declared.answers.Refusal.TheVariants.{NotText};
 ghost use Rattle.versions_c.specs.Values.{IsText, IsGiven, given, given_value, value_bytes, form_of, laid};
@@ -97,12 +97,22 @@ fn line_of(bytes: &[u8]) -> Option<Line<'_>>
 }
 
 // A copy of the value of this form with these bytes. Refused where they are to be a text, and aren't, or where memory runs out.
+#[inline]
 pub(crate) fn taken(alloc: Global, form: Form, bytes: &[u8]) -> Result<Value, Refusal>
     ensures { Taken form bytes.now result }
 {
     if !form.is_text {
         return Ok(Value::Number(form.number));
     }
+    taken_text(alloc, form, bytes)
+}
+
+// The same of a text. It is apart from what takes a number, which is a few steps in each call.
+#[inline(never)]
+fn taken_text(alloc: Global, form: Form, bytes: &[u8]) -> Result<Value, Refusal>
+    requires { IsTrue form.is_text }
+    ensures { Taken form bytes.now result }
+{
     let Some(line) = line_of(bytes) else {
         return Err(Refusal::NotText);
     };
@@ -143,6 +153,14 @@ pub(crate) fn shown(answer: Result<&Value, Refusal>, form: &mut Form, room: &mut
     ensures put { (form.new, room.new) ≡ shown_or (form.old, room.old) (lent answer.entry) }
 {
     match answer {
+        Ok(Value::Number(number)) => {
+            let number = *number;
+            *form = Form {
+                is_text: false,
+                number,
+            };
+            0
+        }
         Ok(value) => {
             *form = Form::of(value);
             lay(bytes_of(value), room);

@@ -80,10 +80,12 @@ impl Handle {
         mem::replace(self, Handle::empty()).into_store(alloc)
     }
 
-    // Puts the store in. One that was there is freed.
+    // Puts the store in. One that was there is not freed: so a call that puts back the one it took tests for none.
     pub(crate) fn put(&mut self, alloc: Global, store: Box<Store>)
         ensures { self.new.value ≡ Some store.value }
     {
-        mem::replace(self, Handle::of(Loose::of(store))).into_store(alloc);
+        if let Some(old) = mem::replace(self, Handle::of(Loose::of(store))).into_store(alloc) {
+            mem::forget(old);
+        }
     }
 }

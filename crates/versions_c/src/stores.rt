@@ -14,6 +14,8 @@ pub extern "C" fn naipselu_new(alloc: Global, handle: &mut Handle) -> u32
 {
     match Store::new(alloc) {
         Ok(store) => {
+            // Frees the one that it had.
+            handle.take(alloc);
             handle.put(alloc, store);
             0
         }
