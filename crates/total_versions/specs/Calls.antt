@@ -5,7 +5,7 @@ use Rattle.std.specs.FinMap as map
 use Rattle.std.specs.List.{AllZip}
 use Rattle.std.specs.declared.cmp.Ordering.{Ordering}
 use Rattle.versions.specs.Store.{Versions, Holds, list_of}
-use Rattle.versions.specs.Sorted.{keys_of, entries_of, has, remove_key, union, both, less, remove_entry, map_union}
+use Rattle.versions.specs.Sorted.{keys_of, entries_of, has, remove_key, union, both, less, remove_entry, map_union, map_both, map_less}
 use Rattle.total_versions.specs.declared.answers.Refusal.{Refusal}
 use Rattle.total_versions.specs.Answers.{Answers, AnswersAtOnce}
 
@@ -110,6 +110,12 @@ module _ {K V : Type 0} (cmp : K → K → Ordering) where
 
   abbrev pub UnitesMaps : (first second : ℕ) → (had now : Versions (List (K × V))) → Result ℕ Refusal → Type 0
   UnitesMaps first second had now r = Makes (Holds had first × Holds had second) ⊥ ⊥ (map_union cmp (entries_of had first) (entries_of had second)) had now r
+
+  abbrev pub IntersectsMaps : (first second : ℕ) → (had now : Versions (List (K × V))) → Result ℕ Refusal → Type 0
+  IntersectsMaps first second had now r = Makes (Holds had first × Holds had second) ⊥ ⊥ (map_both cmp (entries_of had first) (entries_of had second)) had now r
+
+  abbrev pub SubtractsMaps : (first second : ℕ) → (had now : Versions (List (K × V))) → Result ℕ Refusal → Type 0
+  SubtractsMaps first second had now r = Makes (Holds had first × Holds had second) ⊥ ⊥ (map_less cmp (entries_of had first) (entries_of had second)) had now r
 
   abbrev pub PutsHere : ℕ → K → V → (had now : Versions (List (K × V))) → Result ℕ Refusal → Type 0
   PutsHere version key value had now r = Edits (Holds had version) ⊥ ⊥ version (map.put cmp key value (entries_of had version)) had now r

@@ -1,7 +1,7 @@
 //! The calls of maps.
 ghost use Rattle.versions.specs.Sorted.{IsEqualEntry};
 ghost use Rattle.total_versions.specs.Answers.{lent};
-ghost use Rattle.total_versions.specs.Calls.{Compares, Copies, Counts, Finds, Forgets, MakesEmpty, Puts, PutsHere, RemovesEntry, RemovesEntryHere, UnitesMaps};
+ghost use Rattle.total_versions.specs.Calls.{Compares, Copies, Counts, Finds, Forgets, IntersectsMaps, MakesEmpty, Puts, PutsHere, RemovesEntry, RemovesEntryHere, SubtractsMaps, UnitesMaps};
 
 use crate::answers::{Refusal, told_memory, told_memory_here};
 use elem_core::{Element, Probe};
@@ -71,6 +71,40 @@ pub fn union<K: Element, V: Ord + Drop>(
         return Err(Refusal::NoVersion);
     }
     told_memory(maps.union(first, second))
+}
+
+/// The first version's entries whose keys the second has too.
+pub fn both<K: Element, V: Ord + Drop>(
+    maps: &mut Maps<K, V>,
+    first: Version,
+    second: Version,
+) -> Result<usize, Refusal>
+    ensures { IntersectsMaps K.cmp first second maps.old maps.new result }
+{
+    if !maps.holds(first) {
+        return Err(Refusal::NoVersion);
+    }
+    if !maps.holds(second) {
+        return Err(Refusal::NoVersion);
+    }
+    told_memory(maps.both(first, second))
+}
+
+/// The first version's entries whose keys the second lacks.
+pub fn less<K: Element, V: Ord + Drop>(
+    maps: &mut Maps<K, V>,
+    first: Version,
+    second: Version,
+) -> Result<usize, Refusal>
+    ensures { SubtractsMaps K.cmp first second maps.old maps.new result }
+{
+    if !maps.holds(first) {
+        return Err(Refusal::NoVersion);
+    }
+    if !maps.holds(second) {
+        return Err(Refusal::NoVersion);
+    }
+    told_memory(maps.less(first, second))
 }
 
 /// Puts the value at the key of this version itself; an equal key that is there stays.

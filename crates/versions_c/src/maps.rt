@@ -3,7 +3,7 @@ ghost use Rattle.std.specs.Prelude.{◌≡◌, Some, length};
 ghost use Rattle.versions.specs.Sorted.{IsEqualEntry, entries_of};
 ghost use Rattle.versions_c.specs.declared.store.Store.{Store as Stored};
 ghost use Rattle.versions_c.specs.Shown.{FillsEntries, EntriesShown};
-ghost use Rattle.total_versions.specs.Calls.{Compares, Copies, Counts, Finds, Forgets, MakesEmpty, Puts, PutsHere, RemovesEntry, RemovesEntryHere, UnitesMaps};
+ghost use Rattle.total_versions.specs.Calls.{Compares, Copies, Counts, Finds, Forgets, IntersectsMaps, MakesEmpty, Puts, PutsHere, RemovesEntry, RemovesEntryHere, SubtractsMaps, UnitesMaps};
 ghost use Rattle.versions_c.specs.Stores.{Calls, Of, OnMaps, Seeks, Shows, Takes};
 
 use crate::answers::written;
@@ -114,6 +114,52 @@ pub extern "C" fn naipselu_maps_union(
         return Refusal::NoStore.code();
     };
     let answer = maps::union(
+        &mut store.maps,
+        Version::from_number(first),
+        Version::from_number(second),
+    );
+    handle.put(alloc, store);
+    written(answer, made)
+}
+
+/// The entries of the first version whose keys the second has too.
+#[unsafe(no_mangle)]
+pub extern "C" fn naipselu_maps_both(
+    alloc: Global,
+    handle: &mut Handle,
+    first: usize,
+    second: usize,
+    made: &mut usize,
+) -> u32
+    ensures { Calls (OnMaps (IntersectsMaps ⟦<Value as Ord>⟧.cmp first second)) handle.old.value handle.new.value result made.old made.new }
+{
+    let Some(mut store) = handle.take(alloc) else {
+        return Refusal::NoStore.code();
+    };
+    let answer = maps::both(
+        &mut store.maps,
+        Version::from_number(first),
+        Version::from_number(second),
+    );
+    handle.put(alloc, store);
+    written(answer, made)
+}
+
+/// The entries of the first version whose keys the second lacks.
+#[unsafe(no_mangle)]
+pub extern "C" fn naipselu_maps_less(
+    alloc: Global,
+    handle: &mut Handle,
+    first: usize,
+    second: usize,
+    made: &mut usize,
+) -> u32
+    ensures { Calls (OnMaps (SubtractsMaps ⟦<Value as Ord>⟧.cmp first second)) handle.old.value handle.new.value result made.old made.new }
+{
+    let Some(mut store) = handle.take(alloc) else {
+        return Refusal::NoStore.code();
+    };
+    let answer = maps::less(
         &mut store.maps,
         Version::from_number(first),
         Version::from_number(second),

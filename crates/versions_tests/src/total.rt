@@ -119,7 +119,9 @@ fn entries(store: &mut Maps<Num, u32>) -> Result<Version, Refusal> {
 // Of the map of 4 and 7 that of 4.
 fn united(store: &mut Maps<Num, u32>, map: Version) -> Result<Version, Refusal> {
     let seven = version(maps::remove(store, map, &Num(4)))?;
-    let union = version(maps::union(store, seven, map))?;
+    let both = version(maps::both(store, map, seven))?;
+    let four = version(maps::less(store, map, both))?;
+    let union = version(maps::union(store, four, seven))?;
     version(maps::remove_here(store, union, &Num(7)))
 }
 

@@ -101,6 +101,8 @@ unsafe extern "C" {
         handle: &mut Handle, version: usize, form: Form, text: *const u8, len: usize, made: &mut usize,
     ) -> u32;
     pub safe fn naipselu_maps_union(handle: &mut Handle, first: usize, second: usize, made: &mut usize) -> u32;
+    pub safe fn naipselu_maps_both(handle: &mut Handle, first: usize, second: usize, made: &mut usize) -> u32;
+    pub safe fn naipselu_maps_less(handle: &mut Handle, first: usize, second: usize, made: &mut usize) -> u32;
     pub fn naipselu_maps_insert_here(
         handle: &mut Handle, version: usize, form: Form, text: *const u8, len: usize, value_form: Form, value_text: *const u8,
         value_len: usize, edited: &mut usize,

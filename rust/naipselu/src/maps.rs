@@ -108,6 +108,34 @@ impl<K: Value, V: Value> Maps<K, V> {
         self.store.make(|store| store.of_two(library::naipselu_maps_union, first, second))
     }
 
+    /// The first version's entries whose keys the second has too.
+    ///
+    /// ```
+    /// # let mut maps = naipselu::Maps::<u64, u64>::new()?;
+    /// let first = maps.from_iter([(1, 10), (2, 20)])?;
+    /// let second = maps.from_iter([(2, 21), (3, 31)])?;
+    /// let both = maps.intersection(first, second)?;
+    /// assert_eq!(maps.sorted(both)?, [(2, 20)]);
+    /// # Ok::<(), naipselu::Error>(())
+    /// ```
+    pub fn intersection(&mut self, first: Version, second: Version) -> Result<Version, Error> {
+        self.store.make(|store| store.of_two(library::naipselu_maps_both, first, second))
+    }
+
+    /// The first version's entries whose keys the second lacks.
+    ///
+    /// ```
+    /// # let mut maps = naipselu::Maps::<u64, u64>::new()?;
+    /// let first = maps.from_iter([(1, 10), (2, 20)])?;
+    /// let second = maps.from_iter([(2, 21), (3, 31)])?;
+    /// let rest = maps.difference(first, second)?;
+    /// assert_eq!(maps.sorted(rest)?, [(1, 10)]);
+    /// # Ok::<(), naipselu::Error>(())
+    /// ```
+    pub fn difference(&mut self, first: Version, second: Version) -> Result<Version, Error> {
+        self.store.make(|store| store.of_two(library::naipselu_maps_less, first, second))
+    }
+
     /// Puts the value at the key of this version itself, in place where its rows are its own. Every other version stays.
     ///
     /// ```

@@ -12,6 +12,8 @@ pub enum Call {
     Insert(u64, u64),
     Remove(u64),
     Union(usize),
+    Intersection(usize),
+    Difference(usize),
     InsertHere(u64, u64),
     RemoveHere(u64),
     Forget,
@@ -25,6 +27,8 @@ fn calls() -> impl Strategy<Value = Vec<(usize, Call)>> {
         10 => (key(), any::<u64>()).prop_map(|(key, value)| Call::Insert(key, value)),
         4 => key().prop_map(Call::Remove),
         3 => any::<usize>().prop_map(Call::Union),
+        2 => any::<usize>().prop_map(Call::Intersection),
+        2 => any::<usize>().prop_map(Call::Difference),
         10 => (key(), any::<u64>()).prop_map(|(key, value)| Call::InsertHere(key, value)),
         4 => key().prop_map(Call::RemoveHere),
         2 => Just(Call::Forget),
@@ -38,16 +42,19 @@ impl<K: Drawn, V: Drawn> Beside for Maps<K, V> {
 
     fn comes(kept: &Kept<BTreeMap<K, V>>, at: usize, call: &Call) -> Option<Comes<BTreeMap<K, V>>> {
         let mut new = kept[at].1.clone();
+        let other = |other: &usize| &kept[other % kept.len()].1;
         match call {
             Call::Empty => new.clear(),
             Call::Copy => (),
             Call::Insert(key, value) | Call::InsertHere(key, value) => drop(new.insert(K::drawn(*key), V::drawn(*value))),
             Call::Remove(key) | Call::RemoveHere(key) => drop(new.remove(&K::drawn(*key))),
-            Call::Union(other) => {
-                for (key, value) in &kept[other % kept.len()].1 {
+            Call::Union(at) => {
+                for (key, value) in other(at) {
                     new.entry(key.clone()).or_insert_with(|| value.clone());
                 }
             }
+            Call::Intersection(at) => new.retain(|key, _| other(at).contains_key(key)),
+            Call::Difference(at) => new.retain(|key, _| !other(at).contains_key(key)),
             Call::Forget => return Some(Comes::Forgotten),
         }
         let is_edited = matches!(call, Call::InsertHere(..) | Call::RemoveHere(_));
@@ -56,12 +63,15 @@ impl<K: Drawn, V: Drawn> Beside for Maps<K, V> {
 
     fn ask(&mut self, kept: &Kept<BTreeMap<K, V>>, at: usize, call: &Call) -> Result<Version, Error> {
         let version = kept[at].0;
+        let other = |other: usize| kept[other % kept.len()].0;
         match *call {
             Call::Empty => self.empty(),
             Call::Copy => self.copy(version),
             Call::Insert(key, value) => self.insert(version, K::drawn(key).lent(), V::drawn(value).lent()),
             Call::Remove(key) => self.remove(version, K::drawn(key).lent()),
-            Call::Union(other) => self.union(version, kept[other % kept.len()].0),
+            Call::Union(at) => self.union(version, other(at)),
+            Call::Intersection(at) => self.intersection(version, other(at)),
+            Call::Difference(at) => self.difference(version, other(at)),
             Call::InsertHere(key, value) => {
                 self.insert_here(version, K::drawn(key).lent(), V::drawn(value).lent()).map(|()| version)
             }
@@ -117,10 +127,14 @@ fn a_large_map_is_that_of_a_btree_map() {
     let mut maps: Maps<u64, u64> = Maps::new().unwrap();
     let drawn = |from: u64, to: u64| (from..to).map(|number| (u64::drawn(number), number));
     let (first, second) = (maps.from_iter(drawn(0, 20_000)).unwrap(), maps.from_iter(drawn(15_000, 30_000)).unwrap());
-    let both = maps.union(first, second).unwrap();
-    let fewer = maps.remove(both, u64::drawn(17)).unwrap();
+    let union = maps.union(first, second).unwrap();
+    let (both, less) = (maps.intersection(first, second).unwrap(), maps.difference(first, second).unwrap());
+    let fewer = maps.remove(union, u64::drawn(17)).unwrap();
+    let sorted = |from, to| Ok(drawn(from, to).collect::<BTreeMap<u64, u64>>().into_iter().collect());
+    assert_eq!(maps.sorted(union), sorted(0, 30_000));
+    assert_eq!(maps.sorted(both), sorted(15_000, 20_000));
+    assert_eq!(maps.sorted(less), sorted(0, 15_000));
     let mut should: BTreeMap<u64, u64> = drawn(0, 30_000).collect();
-    assert_eq!(maps.sorted(both), Ok(should.clone().into_iter().collect()));
     should.remove(&u64::drawn(17));
     assert_eq!(maps.sorted(fewer), Ok(should.into_iter().collect()));
     assert_eq!(maps.len(first), Ok(20_000));
@@ -157,6 +171,10 @@ fn a_version_of_another_store_is_refused() {
         ("remove", maps.remove(other, 2).err()),
         ("union", maps.union(one, other).err()),
         ("union", maps.union(other, one).err()),
+        ("intersection", maps.intersection(one, other).err()),
+        ("intersection", maps.intersection(other, one).err()),
+        ("difference", maps.difference(one, other).err()),
+        ("difference", maps.difference(other, one).err()),
         ("insert_here", maps.insert_here(other, 3, 3).err()),
         ("remove_here", maps.remove_here(other, 2).err()),
         ("forget", maps.forget(other).err()),
