@@ -4,6 +4,15 @@
 //! The library under this crate is proved: each of its calls does what its contract says, for every argument. This crate itself is
 //! not; `docs/RUST.md` of the repository says what is trusted.
 //!
+//! A call refuses a version that its store doesn't hold (`Error::Version`), a text that can't be one, also where it is only looked
+//! for (`Error::Text`), and, where it makes or edits a version or a store, may want memory (`Error::Memory`). What else one refuses
+//! is told there. A store stays on its thread:
+//!
+//! ```compile_fail,E0277
+//! fn sent<T: Send>(_: T) {}
+//! sent(naipselu::Lists::<u64>::new());
+//! ```
+//!
 //! ```
 //! use naipselu::Lists;
 //!

@@ -366,6 +366,15 @@ fn ends(range: &impl RangeBounds<usize>, len: usize) -> (usize, usize) {
 }
 
 /// The values of a version, in order.
+///
+/// ```
+/// # let mut lists = naipselu::Lists::<u64>::new()?;
+/// let numbers = lists.from_iter([1, 2, 3])?;
+/// let mut iter = lists.iter(numbers)?;
+/// assert_eq!(iter.next(), Some(1));
+/// assert_eq!(iter.len(), 2);
+/// # Ok::<(), naipselu::Error>(())
+/// ```
 #[derive(Clone)]
 pub struct Iter<'s, T: Value> {
     lists: &'s Lists<T>,

@@ -282,6 +282,8 @@ impl<K: Value, V: Value> Maps<K, V> {
     /// let one = maps.from_iter([(1, 10), (2, 20)])?;
     /// let other = maps.insert(one, 1, 11)?;
     /// assert!(!maps.same(one, other)?);
+    /// let back = maps.insert(other, 1, 10)?;
+    /// assert!(maps.same(one, back)?);
     /// # Ok::<(), naipselu::Error>(())
     /// ```
     pub fn same(&self, left: Version, right: Version) -> Result<bool, Error> {

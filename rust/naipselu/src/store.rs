@@ -148,7 +148,8 @@ impl Store {
         Ok(answer)
     }
 
-    /// A call of the library, which is all that `call` does with the handle.
+    /// A call of the library, which is all that `call` does with the handle. It must not use the store again: it has the handle for
+    /// that time.
     #[inline]
     pub fn call(&self, call: impl FnOnce(&mut Handle) -> u32) -> Result<(), Error> {
         // The library calls nothing back, and a store stays on its thread, so no other call has the handle.
