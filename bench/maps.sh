@@ -17,15 +17,21 @@ add_maps() {
     add_measures usize
     cat >> "$crate/src/main.rt" <<'PROGRAM'
 
-// An element that is a number.
+// What a cell has: a key or a value, which are numbers.
 trait Numbered: Element {
-    fn of(number: u32) -> Self;
+    fn key_of(number: u32) -> Self;
+
+    fn value_of(number: u32) -> Self;
 
     fn number(&self) -> u32;
 }
 
 impl Numbered for Num {
-    fn of(number: u32) -> Num {
+    fn key_of(number: u32) -> Num {
+        Num(number)
+    }
+
+    fn value_of(number: u32) -> Num {
         Num(number)
     }
 
@@ -37,7 +43,7 @@ impl Numbered for Num {
 // The key of a turn. No two turns have one key, and the keys' codes lie as if by chance.
 fn key<T: Numbered>(turn: u32) -> T {
     let spread = turn.wrapping_mul(2_654_435_761);
-    T::of(spread ^ (spread >> 15))
+    T::key_of(spread ^ (spread >> 15))
 }
 
 // One hold more of the map, which is never given up.
@@ -205,6 +211,36 @@ loop-turn-preserved g c = record {
 PROOF
 }
 
+# over_pieces NAME: the program once more, by this name, over cells that say whether they are a key or a value, as those of a store of
+# maps do: what `Maps` takes more than it is the price of the store alone.
+over_pieces() {
+    local before=$program source=$crate
+    begin_program "$1" "$(sed -n "s/^$before: //p" "$work/crates.txt" | tail -1) versions"
+    cp -r "$source/src" "$source/specs" "$source/proofs" "$crate"
+    find "$crate/src" "$crate/specs" "$crate/proofs" -type f -exec sed -i "s/\\b$before\\b/$1/g" {} +
+    sed -i 's/Heap<Num>/Heap<Piece<Num, u32>>/; s/^use std::time::CpuClock;/&\nuse versions::Piece;/' "$crate/src/main.rt"
+    cat >> "$crate/src/main.rt" <<'PROGRAM'
+
+impl Numbered for Piece<Num, u32> {
+    fn key_of(number: u32) -> Piece<Num, u32> {
+        Piece::Key(Num(number))
+    }
+
+    fn value_of(number: u32) -> Piece<Num, u32> {
+        Piece::Value(number)
+    }
+
+    fn number(&self) -> u32 {
+        match self {
+            Piece::Key(key) => key.0,
+            Piece::Value(number) => *number,
+        }
+    }
+}
+PROGRAM
+    prove_and_build "$1"
+}
+
 # The program over this repository's maps.
 take_crates versions
 begin_program map_rows 'champ_kinds champ_chain node_heap elem_core anyhow'
@@ -330,7 +366,7 @@ fn inserted<T: Numbered>(heap: &mut Heap<T>, map: MapRef, turn: u32) -> Result<M
 $one_map
 {
     heap.reserve(1, 0)?;
-    let value = heap.cell(T::of(turn));
+    let value = heap.cell(T::value_of(turn));
     match map_insert(heap, map, key(turn), value) {
         Ok(made) => Ok(moved(heap, map, made)),
         Err(_fault) => Err(NoMemory),
@@ -522,6 +558,8 @@ returns-in-Some-clause-count g c =
 PROOF
 prove_and_build map_rows
 runs=("this repository|$crate/out/map_rows|")
+over_pieces map_pieces
+runs+=("this repository, its cells|$crate/out/map_pieces|")
 
 # The program over this repository's maps, edited in place.
 begin_program map_in_place 'edit_trie champ_kinds champ_trie champ_chain node_heap elem_core anyhow'
@@ -654,7 +692,7 @@ fn insert<T: Numbered>(heap: &mut Heap<T>, map: &mut TrieEdit, turn: u32) -> Res
 $edits_map
 {
     heap.reserve(1, 0)?;
-    let value = heap.cell(T::of(turn));
+    let value = heap.cell(T::value_of(turn));
     match map.insert(heap, key(turn), value) {
         Ok(given) => {
             give_up(heap, given);
@@ -920,6 +958,8 @@ PROOF
 
 prove_and_build map_in_place
 runs+=("this repository, in place|$crate/out/map_in_place|")
+over_pieces map_pieces_in_place
+runs+=("this repository, its cells, in place|$crate/out/map_pieces_in_place|")
 
 # add_versions WAY: the program over a map of a store of versions.
 add_versions() {
